@@ -33,7 +33,7 @@ PLACES = [
     ('promise', 1, 480, [['dn_link_game']]),
     ('promise', 2, 508, [['zirmegat']]),
     ('promise', 2, 602, [['dn_session']]),
-    ('promise', 3, 262, [['dn_netgame', 'dn_program', 'netgame']]),
+    ('promise', 3, 262, [['dn_netgame', 'dn_inspect', 'dn_program', 'netgame']]),
     ('promise', 3, 680, [['dn_host']]),
 ]
 WIDTH, RISE, LINE, MARGIN = 740, 48, 17, 10

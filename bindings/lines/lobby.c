@@ -18,25 +18,25 @@ static void fill(uint8_t random[32], uint64_t seed, int player) {
     random[0] |= 1;
 }
 
-static void host(const game *g, zmg_session *session) {
+static void host(const game *g, zmg_session **session) {
     zmg_host_config c;
     zmg_host_config_init(&c);
     c.terms.players = (uint8_t)g->on->players;
     c.terms.window = (uint8_t)g->on->window;
     c.terms.limit = DEMO;
-    c.key[0] = KEY;
-    fill(c.random, g->seed, HOST);
-    must(zmg_session_host(session, &c) == ZMG_STATUS_OK, "a session hosts");
+    c.key.bytes[0] = KEY;
+    fill(c.random.bytes, g->seed, HOST);
+    must(zmg_session_host(session, &c) == ZMG_OK, "a session hosts");
 }
 
-static void join(const game *g, zmg_session *session, int player) {
+static void join(const game *g, zmg_session **session, int player) {
     zmg_join_config c;
     zmg_join_config_init(&c);
     c.host = post_address(HOST);
     c.seat = (uint8_t)player;
-    c.key[0] = KEY;
-    fill(c.random, g->seed, player);
-    must(zmg_session_join(session, &c, 0) == ZMG_STATUS_OK, "a session joins");
+    c.key.bytes[0] = KEY;
+    fill(c.random.bytes, g->seed, player);
+    must(zmg_session_join(session, &c, 0) == ZMG_OK, "a session joins");
 }
 
 /* A datagram takes up to a tick, always as long to the same player: so ticks begin at any phase. */
@@ -46,7 +46,7 @@ static double comes(const game *g, int to, uint32_t now) {
 
 static void send_all(const game *g, seat seats[PLAYERS], queue *q, int me, uint32_t now) {
     session_datagram d;
-    while (post_next(&seats[me].session, me, &d)) {
+    while (post_next(seats[me].session, me, &d)) {
         event e = { 0, ARRIVAL, d.head.to, 0, NULL, 0 };
         e.at = comes(g, d.head.to, now);
         e.datagram = datagram_copy(&d.head);
@@ -56,19 +56,19 @@ static void send_all(const game *g, seat seats[PLAYERS], queue *q, int me, uint3
 
 static void hear(const game *g, seat seats[PLAYERS], queue *q, const event *e) {
     uint32_t now = (uint32_t)e->at;
-    post_hear(&seats[e->player].session, e->datagram, now);
+    post_hear(seats[e->player].session, e->datagram, now);
     send_all(g, seats, q, e->player, now);
 }
 
 /* Does what is due. Returns for how many the game has begun now. */
 static int poll_all(const game *g, seat seats[PLAYERS], queue *q, uint32_t now) {
-    zmg_event_kind told;
+    zmg_event told;
     int begun = 0;
     for (int me = 0; me < g->on->players; me++) {
-        zmg_status status = zmg_session_poll(&seats[me].session, now);
-        must(status == ZMG_STATUS_OK, "a session has memory");
-        while ((told = zmg_session_event(&seats[me].session).kind) != ZMG_EVENT_NONE)
-            begun += told == ZMG_EVENT_BEGAN;
+        zmg_status status = zmg_session_poll(seats[me].session, now);
+        must(status == ZMG_OK, "a session has memory");
+        while (zmg_session_event(seats[me].session, &told) != ZMG_EVENT_NONE)
+            begun += told.kind == ZMG_EVENT_BEGAN;
         send_all(g, seats, q, me, now);
     }
     return begun;

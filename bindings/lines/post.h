@@ -8,7 +8,7 @@
 /* It is as long as head.length says. */
 typedef struct session_datagram {
     datagram head;
-    uint8_t bytes[ZMG_SESSION_SIZE];
+    uint8_t bytes[ZMG_DATAGRAM_SIZE];
 } session_datagram;
 
 zmg_address post_address(int player);

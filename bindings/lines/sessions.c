@@ -34,10 +34,10 @@ static void wake_at(game *g, int me, double time) {
 }
 
 static void sleep(game *g, int me) {
-    zmg_number due = zmg_session_due(&seats[me].session);
+    uint32_t now = clock_of(g, me), wait = zmg_session_wait(seats[me].session, now);
     double time;
-    if (!due.known) return;
-    time = time_of(g, me, due.value);
+    if (wait == ZMG_WAIT_NONE) return;
+    time = time_of(g, me, now + wait);
     wake_at(g, me, time > g->now ? time : g->now + MILLISECOND);
 }
 
@@ -45,7 +45,7 @@ static void sleep(game *g, int me) {
 
 static void send_all(game *g, int me) {
     session_datagram d;
-    while (post_next(&seats[me].session, me, &d)) {
+    while (post_next(seats[me].session, me, &d)) {
         must(d.head.to >= 0 && d.head.to < g->on->players, "a datagram goes to a player");
         game_send(g, &d.head);
     }
@@ -54,16 +54,16 @@ static void send_all(game *g, int me) {
 /* The player's command has become part of the game, if it has. */
 static void note_made(game *g, int me, uint32_t before) {
     zmg_state state;
-    zmg_session_state(&seats[me].session, &state);
-    must(state.game.made <= before + 1, "one command is made at once");
-    if (state.game.made > before) record_command(&g->records[me], (int)before);
+    zmg_session_state(seats[me].session, &state, sizeof state);
+    must(state.made <= before + 1, "one command is made at once");
+    if (state.made > before) record_command(&g->records[me], (int)before);
 }
 
 static uint32_t made_by(int me) {
     zmg_state state;
-    zmg_session_state(&seats[me].session, &state);
+    zmg_session_state(seats[me].session, &state, sizeof state);
     must(state.stage == ZMG_STAGE_PLAYING, "the session plays");
-    return state.game.made;
+    return state.made;
 }
 
 static void give(game *g, int me, uint32_t now) {
@@ -71,29 +71,29 @@ static void give(game *g, int me, uint32_t now) {
     zmg_command command = hand_command(g->seed, me, s->ticks++);
     uint32_t before = made_by(me);
     record_tick(&g->records[me], g->now);
-    must(zmg_session_give(&s->session, &command, now) == 1, "a command that is wanted is taken");
+    must(zmg_session_give(s->session, &command, now) == ZMG_OK, "a command that is wanted is taken");
     note_made(g, me, before);
 }
 
 static int run(game *g, int me) {
     seat *s = &seats[me];
     uint32_t before = made_by(me);
-    zmg_known_command row[4];
     int16_t marks[4];
-    zmg_ran ran;
+    zmg_row row;
+    zmg_run ran;
     world_marks(&s->world, marks);
-    ran = zmg_session_run(&s->session, marks, row);
-    must(ran.code == ZMG_TIC_RAN || ran.code == ZMG_TIC_WAITING || ran.code == ZMG_TIC_HELD,
+    ran = zmg_session_run(s->session, marks, &row);
+    must(ran == ZMG_RUN_RAN || ran == ZMG_RUN_WAITING || ran == ZMG_RUN_HELD,
          "the worlds are the same");
-    if (ran.code != ZMG_TIC_RAN) return 0;
-    world_step(&s->world, ran.tic, row);
-    game_run(g, me, (int)ran.tic);
+    if (ran != ZMG_RUN_RAN) return 0;
+    world_step(&s->world, &row);
+    game_run(g, me, (int)row.tic);
     note_made(g, me, before);
     return 1;
 }
 
 static void hear(game *g, int me, const datagram *d) {
-    post_hear(&seats[me].session, d, clock_of(g, me));
+    post_hear(seats[me].session, d, clock_of(g, me));
     send_all(g, me);
 }
 
@@ -106,13 +106,14 @@ static void hear_all(game *g, int me) {
 }
 
 static void wake(game *g, int me) {
-    zmg_session *session = &seats[me].session;
+    zmg_session *session = seats[me].session;
+    zmg_event told;
     uint32_t now = clock_of(g, me);
     if (g->on->hears_once && zmg_session_wants_input(session, now)) hear_all(g, me);
-    must(zmg_session_poll(session, now) == ZMG_STATUS_OK, "a session has memory");
+    must(zmg_session_poll(session, now) == ZMG_OK, "a session has memory");
     while (zmg_session_wants_input(session, now)) give(g, me, now);
     send_all(g, me);
-    must(zmg_session_event(session).kind == ZMG_EVENT_NONE, "nobody leaves or is given up");
+    must(zmg_session_event(session, &told) == ZMG_EVENT_NONE, "nobody leaves or is given up");
     while (game_can_run(g, me) && run(g, me)) continue;
     send_all(g, me);
     sleep(g, me);
@@ -156,7 +157,7 @@ static void open(game *g) {
 static void close(game *g) {
     worlds_close();
     for (int me = 0; me < g->on->players; me++) {
-        zmg_session_free(&seats[me].session);
+        zmg_session_free(seats[me].session);
         queue_clear(&seats[me].inbox);
     }
 }

@@ -9,7 +9,7 @@
 /* A player. ticks: how many commands it gave. wakes: when it wakes next, by the event of this
  * number; earlier ones are void. inbox: what came and was not heard yet. */
 typedef struct seat {
-    zmg_session session;
+    zmg_session *session;
     world world;
     uint32_t ticks;
     double wakes;

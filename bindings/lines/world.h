@@ -15,7 +15,7 @@ void worlds_close(void);
 /* A new world, of a player who has run nothing. */
 void world_begin(world *w);
 /* Steps it by the row of a tic, which must be that of the players who ran the tic before. */
-void world_step(world *w, uint32_t tic, const zmg_known_command row[4]);
+void world_step(world *w, const zmg_row *row);
 /* A function of the world: of each player another one. */
 void world_marks(const world *w, int16_t marks[4]);
 

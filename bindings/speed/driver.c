@@ -1,21 +1,24 @@
-/* Plays two nodes over memory through zirmegat.h, to compare the library with a plain one of the same interface.
+/* Plays two locksteps over memory through zirmegat_parts.h, to compare the library with a plain one of the same
+ * interface.
  *
- *     driver time TICS [PERIOD [EXTRA [LIMIT [LOOP]]]]   the game alone: prints where the worlds came to
- *     driver sum  TICS [PERIOD [EXTRA [LIMIT [LOOP]]]]   the same game, with a checksum over all datagrams, answers,
+ *     driver time TICS [PERIOD [EXTRA [LIMIT [LOOP]]]]   the game alone: prints where the worlds came to driver
+ *     sum  TICS [PERIOD [EXTRA [LIMIT [LOOP]]]]   the same game, with a checksum over all datagrams, answers,
  *                                                        rows and demos
- *     driver fuzz GAMES SEED                             games of two to four on a bad line, any bytes and any calls:
+ *     driver fuzz GAMES SEED                             games of two to four on a bad line, any bytes and any
+ *     calls:
  *                                                        a checksum over all that comes of them
  *
- * Each tic: both build, both give a packet, both receive the other's, both run and step their worlds. PERIOD: keys
- * change every so many tics. EXTRA: whether a packet repeats the last command. LIMIT: bytes of a demo; a game whose
- * demo is full is given up and a new one begun. LOOP: 1 runs until a run waits, as the loop of the header does, and 0
- * once a tic. */
-#include "zirmegat.h"
+ * Each tic: both build, both give a packet, both receive the other's, both run and step their worlds. PERIOD:
+ * keys change every so many tics. EXTRA: whether a packet repeats the last command. LIMIT: bytes of a demo; a
+ * game whose demo is full is given up and a new one begun. LOOP: 1 runs until a run waits, as the loop of the
+ * header does, and 0 once a tic. */
+#include "zirmegat_parts.h"
 #include <stdio.h>
 #include <stdlib.h>
 #include <string.h>
 
-/* ---- The world of walk.h, with a look-up in place of its switch, which random turns make the processor guess. ---- */
+/* ---- The world of walk.h, with a look-up in place of its switch, which random turns make the processor guess.
+ * ---- */
 
 typedef struct spot {
     uint32_t x, y;
@@ -37,7 +40,7 @@ static void walk_begin(walk *w, unsigned players) {
     }
 }
 
-static inline void spot_go(spot *s, const zmg_move *m) {
+static inline void spot_go(spot *s, const zmg_command *m) {
     s->angle = (uint16_t)(s->angle + (uint16_t)m->turn);
     unsigned q = s->angle >> 14;
     int32_t x = WAYS[q + 1], y = WAYS[q];
@@ -45,9 +48,9 @@ static inline void spot_go(spot *s, const zmg_move *m) {
     s->y += (uint32_t)(m->forward * y - m->side * x);
 }
 
-static inline void walk_step(walk *w, const zmg_move row[4]) {
+static inline void walk_step(walk *w, const zmg_row *row) {
     for (unsigned p = 0; p < 4; p++)
-        if (row[p].present) spot_go(&w->spots[p], &row[p]);
+        if (row->present[p]) spot_go(&w->spots[p], &row->commands[p]);
 }
 
 static inline void walk_marks(const walk *w, int16_t marks[4]) {
@@ -63,57 +66,50 @@ static void mix_bytes(const uint8_t *b, size_t n) {
     mix(n);
     for (size_t k = 0; k < n; k++) mix(b[k]);
 }
-static void mix_row(const zmg_move row[4]) {
+static void mix_run(zmg_run code, const zmg_row *row) {
+    mix(code); mix(row->tic); mix((uint16_t)row->was); mix((uint16_t)row->should); mix(row->player);
     for (unsigned p = 0; p < 4; p++) {
-        mix((uint16_t)row[p].turn);
-        mix((uint8_t)row[p].forward);
-        mix((uint8_t)row[p].side);
-        mix(row[p].buttons);
-        mix(row[p].present);
+        const zmg_command *c = &row->commands[p];
+        mix((uint16_t)c->turn); mix((uint8_t)c->forward); mix((uint8_t)c->side); mix(c->chat); mix(c->buttons);
+        mix(row->present[p]);
     }
 }
-static void mix_ran(zmg_ran r) {
-    mix(r.code); mix(r.tic); mix((uint16_t)r.was); mix((uint16_t)r.should); mix(r.player);
+static zmg_node_state state_of(const zmg_node *node) {
+    zmg_node_state s;
+    mix(zmg_node_state_get(node, &s, sizeof s));
+    return s;
 }
-static void mix_number(zmg_number n) { mix(n.known); mix(n.value); }
-static void mix_demo(zmg_lockstep *node) {
+static void mix_demo(const zmg_node *node) {
     uint8_t bytes[4096];
     size_t from = 0, n;
-    mix(zmg_lockstep_demo_length(node));
-    for (; (n = zmg_lockstep_demo(node, from, bytes, sizeof bytes)) > 0; from += n) mix_bytes(bytes, n);
-}
-static void mix_command(zmg_known_command c) {
-    mix(c.known); mix((uint16_t)c.command.turn); mix((uint16_t)c.command.mark);
-    mix((uint8_t)c.command.forward); mix((uint8_t)c.command.side); mix(c.command.chat); mix(c.command.buttons);
+    mix(state_of(node).demo_length);
+    for (; (n = zmg_node_demo(node, from, bytes, sizeof bytes)) > 0; from += n) mix_bytes(bytes, n);
 }
 /* All that a node tells of itself. */
-static void mix_node(zmg_lockstep *node) {
-    zmg_phase p = zmg_lockstep_phase(node);
-    mix(p.code); mix(p.cause); mix((uint16_t)p.was); mix((uint16_t)p.should); mix(p.player);
-    mix(zmg_lockstep_me(node)); mix(zmg_lockstep_players(node));
-    mix(zmg_lockstep_made(node)); mix(zmg_lockstep_ran(node));
-    for (uint8_t k = 0; k < 5; k++) {
-        mix_number(zmg_lockstep_got(node, k));
-        mix_number(zmg_lockstep_end(node, k));
-        zmg_aim a = zmg_lockstep_aim(node, k);
-        mix(a.known); mix_number(a.ask); mix(a.start); mix(a.flags); mix(a.count);
-    }
-    mix(zmg_lockstep_can_build(node));
-    for (uint8_t k = 0; k < 5; k++)
-        for (uint32_t back = 0; back < 28; back += 1 + back / 4)
-            mix_command(zmg_lockstep_command(node, k, zmg_lockstep_ran(node) + 12 - back));
-    zmg_known_settings s = zmg_lockstep_settings(node);
-    mix(s.known); mix(s.settings.skill); mix(s.settings.deathmatch); mix(s.settings.no_monsters);
+static void mix_node(const zmg_node *node) {
+    zmg_node_state s = state_of(node);
+    mix(s.demo_length); mix(s.phase); mix(s.cause); mix((uint16_t)s.was); mix((uint16_t)s.should); mix(s.player);
+    mix(s.me); mix(s.players); mix(s.made); mix(s.ran); mix(s.can_give);
+    mix(s.unacknowledged); mix(s.refused); mix(s.may_leave); mix(s.is_undecided); mix(s.undecided);
+    mix(s.knows_settings); mix(s.settings.skill); mix(s.settings.deathmatch); mix(s.settings.no_monsters);
     mix(s.settings.respawn); mix(s.settings.episode); mix(s.settings.map);
-    mix(zmg_lockstep_demo_length(node));
+    for (uint8_t k = 0; k < 5; k++) {
+        zmg_node_player p;
+        zmg_aim a = { 0, 0, 0, 0, 0 };
+        mix(zmg_node_player_get(node, k, &p, sizeof p));
+        mix(p.got); mix(p.end); mix(p.left); mix(p.given_up); mix(p.line.came);
+        mix(zmg_lockstep_aim(node, k, &a));
+        mix(a.asks); mix(a.ask); mix(a.start); mix(a.flags); mix(a.count);
+    }
 }
 
 /* ---- The game of two ---- */
 
 typedef struct side {
-    zmg_lockstep node;
+    zmg_node *node;
     walk world;
     uint32_t seed, keys;
+    uint8_t hold;
 } side;
 
 static side sides[2];
@@ -125,37 +121,51 @@ static void die(const char *what) {
 
 static void give_and_hear(unsigned from) {
     uint8_t bytes[ZMG_PACKET_SIZE];
-    size_t n = zmg_lockstep_packet(&sides[from].node, (uint8_t)(1 - from), bytes, sizeof bytes);
-    zmg_heard h = zmg_lockstep_receive(&sides[1 - from].node, (uint8_t)from, bytes, n);
+    zmg_heard h;
+    size_t n = zmg_lockstep_packet(sides[from].node, (uint8_t)(1 - from), bytes, sizeof bytes);
+    zmg_lockstep_receive(sides[1 - from].node, (uint8_t)from, bytes, n, &h);
     mix_bytes(bytes, n);
     mix(h.code); mix(h.number);
 }
 
+static zmg_node_config config_of(uint32_t limit, unsigned players, unsigned me, uint8_t extra) {
+    zmg_node_config c;
+    zmg_node_config_init(&c);
+    c.limit = limit;
+    c.players = (uint8_t)players;
+    c.me = (uint8_t)me;
+    c.extra = extra;
+    return c;
+}
+
 static void begin(uint32_t limit, uint8_t extra) {
     for (unsigned k = 0; k < 2; k++) {
-        zmg_config c = { limit, 2, (uint8_t)k, extra, { 3, 1, 0, 0, 1, 7 } };
-        if (zmg_lockstep_new(&sides[k].node, &c) != ZMG_NEW_OK) die("no node");
+        zmg_node_config c = config_of(limit, 2, k, extra);
+        zmg_settings settings = { 3, 1, 0, 0, 1, 7 };
+        c.settings = settings;
+        sides[k].hold = 0;
+        if (zmg_lockstep_new(&sides[k].node, &c) != ZMG_OK) die("no node");
         walk_begin(&sides[k].world, 2);
     }
     give_and_hear(0); /* the settings */
     give_and_hear(1); /* here I am */
     for (unsigned k = 0; k < 2; k++)
-        if (zmg_lockstep_phase(&sides[k].node).code != ZMG_PHASE_PLAYING) die("not started");
+        if (state_of(sides[k].node).phase != ZMG_PHASE_PLAYING) die("not started");
 }
 
 static void end(int sums) {
     for (unsigned k = 0; k < 2; k++) {
-        zmg_lockstep *node = &sides[k].node;
+        zmg_node *node = sides[k].node;
         if (sums) {
             mix_node(node);
             mix_demo(node);
         }
-        mix(zmg_lockstep_demo_length(node));
+        mix(state_of(node).demo_length);
         for (unsigned p = 0; p < 2; p++) {
             const spot *s = &sides[k].world.spots[p];
             mix(s->x); mix(s->y); mix(s->angle);
         }
-        zmg_lockstep_free(node);
+        zmg_node_free(node);
     }
 }
 
@@ -167,34 +177,35 @@ static inline __attribute__((always_inline)) int play(int sums, int fresh, int l
     for (unsigned k = 0; k < 2; k++) {
         side *s = &sides[k];
         if (fresh) s->keys = (s->seed = s->seed * 1664525u + 1013904223u) >> 9;
-        zmg_made made = zmg_lockstep_build(&s->node, s->keys);
-        if (made.code != ZMG_BUILD_MADE) die("not built");
-        if (sums) mix(made.tic);
+        zmg_command c;
+        zmg_command_from_keys(&s->hold, s->keys, &c);
+        if (zmg_node_give(s->node, &c) != ZMG_OK) die("not given");
     }
     for (unsigned k = 0; k < 2; k++) {
-        length[k] = zmg_lockstep_packet(&sides[k].node, (uint8_t)(1 - k), bytes[k], sizeof bytes[k]);
+        length[k] = zmg_lockstep_packet(sides[k].node, (uint8_t)(1 - k), bytes[k], sizeof bytes[k]);
         if (sums) mix_bytes(bytes[k], length[k]);
     }
     for (unsigned k = 0; k < 2; k++) {
-        zmg_heard h = zmg_lockstep_receive(&sides[k].node, (uint8_t)(1 - k), bytes[1 - k], length[1 - k]);
-        if (h.code != ZMG_RECEIVE_TAKEN) die("not taken");
+        zmg_heard h;
+        zmg_node *node = sides[k].node;
+        if (zmg_lockstep_receive(node, (uint8_t)(1 - k), bytes[1 - k], length[1 - k], &h) != ZMG_HEARD_TAKEN)
+            die("not taken");
         if (sums) mix(h.number);
     }
     for (unsigned k = 0; k < 2; k++) {
         side *s = &sides[k];
         for (;;) {
             int16_t marks[4];
-            zmg_move row[4];
+            zmg_row row;
             walk_marks(&s->world, marks);
-            zmg_ran ran = zmg_lockstep_run(&s->node, marks, row);
-            if (sums) mix_ran(ran);
-            if (ran.code != ZMG_RUN_RAN) {
-                if (ran.code != ZMG_RUN_WAITING) on = 0;
-                if (ran.code != ZMG_RUN_WAITING && ran.code != ZMG_RUN_DEMO_FULL) die("not run");
+            zmg_run ran = zmg_node_run(s->node, marks, &row);
+            if (sums) mix_run(ran, &row);
+            if (ran != ZMG_RUN_RAN) {
+                if (ran != ZMG_RUN_WAITING) on = 0;
+                if (ran != ZMG_RUN_WAITING && ran != ZMG_RUN_DEMO_FULL) die("not run");
                 break;
             }
-            walk_step(&s->world, row);
-            if (sums) mix_row(row);
+            walk_step(&s->world, &row);
             if (!loop) break;
         }
     }
@@ -247,7 +258,8 @@ static void seal(uint8_t *b, size_t length, unsigned flags) {
 }
 
 static void bad_game(unsigned long counts[3][32]) {
-    static zmg_lockstep nodes[NODES];
+    zmg_node *nodes[NODES];
+    uint8_t holds[NODES] = { 0 };
     static walk worlds[NODES];
     static flight flights[FLIGHTS];
     static const uint32_t limits[4] = { 1024, 1100, 2000, 65536 };
@@ -256,27 +268,36 @@ static void bad_game(unsigned long counts[3][32]) {
     uint8_t extra = (uint8_t)below(3);
     uint32_t limit = limits[below(4)];
     for (unsigned k = 0; k < NODES; k++) {
-        zmg_config c = { limit, (uint8_t)players, (uint8_t)k, extra,
-            { (uint8_t)below(5), (uint8_t)below(3), (uint8_t)below(3), (uint8_t)below(3), (uint8_t)(1 + below(3)),
-                (uint8_t)(1 + below(32)) } };
+        zmg_node_config c = config_of(limit, players, k, extra);
+        zmg_settings good = { (uint8_t)below(5), (uint8_t)below(3), (uint8_t)below(3), (uint8_t)below(3),
+            (uint8_t)(1 + below(3)), (uint8_t)(1 + below(32)) };
+        c.settings = good;
         if (below(40) == 0) {
-            zmg_config odd = { below(2) ? below(3000) : limit, (uint8_t)below(6), (uint8_t)below(6), extra,
-                { (uint8_t)below(7), (uint8_t)below(4), 0, 0, (uint8_t)below(5), (uint8_t)below(40) } };
-            c = odd;
+            zmg_settings odd = { (uint8_t)below(7), (uint8_t)below(4), 0, 0, (uint8_t)below(5), (uint8_t)below(40) };
+            c = config_of(below(2) ? below(3000) : limit, below(6), below(6), extra);
+            c.settings = odd;
+            if (below(4) == 0) c.size--;
         }
-        mix(zmg_lockstep_new(&nodes[k], &c));
+        /* a player whose config is refused has another player's of its number */
+        for (;;) {
+            zmg_status made = zmg_lockstep_new(&nodes[k], &c);
+            mix(made);
+            if (made == ZMG_OK) break;
+            if (nodes[k]) die("a node with a fault");
+            c = config_of(limit, players, k < players ? k : 0, extra);
+        }
         walk_begin(&worlds[k], players);
     }
     while (calls-- > 0) {
         unsigned k = below(below(50) ? players : NODES);
-        zmg_lockstep *node = &nodes[k];
+        zmg_node *node = nodes[k];
         switch (below(calm ? 8 : 12)) {
         case 0: case 8: {
-            zmg_command c = { (int16_t)draw(), 0, (int8_t)draw(), (int8_t)draw(), (uint8_t)draw(), (uint8_t)draw() };
-            zmg_made m = below(3) ? zmg_lockstep_build(node, below(4) ? draw() : draw() & 15)
-                : zmg_lockstep_give(node, &c);
-            mix(m.code); mix(m.tic);
-            counts[0][m.code]++;
+            zmg_command c = { (int16_t)draw(), (int8_t)draw(), (int8_t)draw(), (uint8_t)draw(), (uint8_t)draw() };
+            if (below(3)) zmg_command_from_keys(&holds[k], below(4) ? draw() : draw() & 15, &c);
+            zmg_status m = zmg_node_give(node, &c);
+            mix(m); mix(holds[k]);
+            counts[0][m]++;
             break;
         }
         case 1: case 2: case 9: {
@@ -312,36 +333,34 @@ static void bad_game(unsigned long counts[3][32]) {
                     seal(f.bytes, f.length, below(3) ? f.bytes[3] >> 4 : below(16));
                 }
             }
-            zmg_heard h = zmg_lockstep_receive(&nodes[f.to], from, f.bytes, f.length);
+            zmg_heard h;
+            mix(zmg_lockstep_receive(nodes[f.to], from, f.bytes, f.length, &h));
             mix(h.code); mix(h.number);
-            counts[1][h.code == ZMG_RECEIVE_DROPPED ? h.number % 32 : 0]++;
+            counts[1][h.code == ZMG_HEARD_DROPPED ? h.number % 32 : 0]++;
             counts[2][5 + h.code]++;
-            if (h.code == ZMG_RECEIVE_STARTED) walk_begin(&worlds[f.to], zmg_lockstep_players(&nodes[f.to]));
+            if (h.code == ZMG_HEARD_STARTED) walk_begin(&worlds[f.to], state_of(nodes[f.to]).players);
             break;
         }
         case 6: case 7: case 11: {
             int16_t marks[4];
-            zmg_move row[4];
-            memset(row, 7, sizeof row);
+            zmg_row row;
+            memset(&row, 7, sizeof row);
             walk_marks(&worlds[k], marks);
             if (!honest && below(1000) == 0) marks[below(4)] = (int16_t)draw();
-            zmg_ran r = zmg_lockstep_run(node, marks, row);
-            mix_ran(r);
-            mix_row(row);
-            counts[2][r.code]++;
-            if (r.code == ZMG_RUN_RAN) walk_step(&worlds[k], row);
+            zmg_run r = zmg_node_run(node, marks, &row);
+            mix_run(r, &row);
+            counts[2][r]++;
+            if (r == ZMG_RUN_RAN) walk_step(&worlds[k], &row);
             break;
         }
         }
         if (below(60) == 0) mix_node(node);
-        if (calls < leave && below(400) == 0) mix(zmg_lockstep_quit(node));
-        if (calls < leave && below(2000) == 0) zmg_lockstep_free(node);
+        if (calls < leave && below(400) == 0) mix(zmg_node_quit(node));
     }
     for (unsigned k = 0; k < NODES; k++) {
-        mix_node(&nodes[k]);
-        mix_demo(&nodes[k]);
-        zmg_lockstep_free(&nodes[k]);
-        mix_node(&nodes[k]);
+        mix_node(nodes[k]);
+        mix_demo(nodes[k]);
+        zmg_node_free(nodes[k]);
     }
 }
 
@@ -349,8 +368,9 @@ static void fuzz(unsigned long games, uint32_t seed) {
     static unsigned long counts[3][32];
     dice = seed;
     for (unsigned long g = 0; g < games; g++) bad_game(counts);
-    printf("games %lu seed %u sum %016llx\nbuilt", games, (unsigned)seed, (unsigned long long)sum);
-    for (unsigned k = 0; k < 3; k++) printf(" %lu", counts[0][k]);
+    printf("games %lu seed %u sum %016llx\ngiven", games, (unsigned)seed, (unsigned long long)sum);
+    for (unsigned k = 0; k < 32; k++)
+        if (counts[0][k] != 0) printf(" %u:%lu", k, counts[0][k]);
     printf("\nran");
     for (unsigned k = 0; k < 5; k++) printf(" %lu", counts[2][k]);
     printf("\nheard");

@@ -1,22 +1,59 @@
-//! The structs and codes of zirmegat.h.
+//! The structs and codes of zirmegat.h and zirmegat_parts.h, as far as a lockstep has them.
 
-use crate::game::{KEPT, VERSION};
+use crate::game::{AHEAD, KEPT, MAX_PLAYERS, VERSION};
 use crate::game::command::Command;
 use crate::game::packet::{NoPacket, expand};
 use crate::game::settings::{OutOfRange, Settings};
 
+#[repr(u32)]
+#[derive(Clone, Copy)]
+pub enum Status {
+    Ok = 0,
+    Size = 2,
+    Memory = 3,
+    NotNow = 5,
+    Players = 8,
+    Window = 9,
+    Limit = 11,
+    Skill = 14,
+    Deathmatch = 15,
+    Episode = 16,
+    Map = 17,
+    Me = 24,
+    Full = 25,
+}
+
+impl From<OutOfRange> for Status {
+    fn from(setting: OutOfRange) -> Status {
+        match setting {
+            OutOfRange::Skill => Status::Skill,
+            OutOfRange::Deathmatch => Status::Deathmatch,
+            OutOfRange::Episode => Status::Episode,
+            OutOfRange::Map => Status::Map,
+        }
+    }
+}
+
 #[repr(C)]
 pub struct Config {
+    pub size: usize,
     pub limit: u32,
     pub players: u8,
     pub me: u8,
+    pub window: u8,
     pub extra: u8,
     pub settings: Settings,
+    pub secret: [u8; 32],
+    pub game: [u8; 16],
 }
 
 impl Config {
-    /// The settings, or why there is no node. The settings of other players than 0 are not read.
-    pub fn check(&self) -> Result<Settings, NewFault> {
+    /// The settings, or why there is no node, of which these know the window of 1997 alone. The settings of other
+    /// players than 0 are not read.
+    pub fn check(&self) -> Result<Settings, Status> {
+        if self.size != size_of::<Config>() {
+            return Err(Status::Size);
+        }
         let mut settings = Settings::default();
         if self.me == 0 {
             settings = self.settings;
@@ -24,96 +61,50 @@ impl Config {
             settings.respawn = u8::from(settings.respawn != 0);
             settings.check()?;
         }
+        if u32::from(self.window) != AHEAD {
+            return Err(Status::Window);
+        }
         if !(2..=4).contains(&self.players) {
-            return Err(NewFault::Players);
+            return Err(Status::Players);
         }
         if self.me >= self.players {
-            return Err(NewFault::Me);
+            return Err(Status::Me);
         }
         if !(1024..=16_777_216).contains(&self.limit) {
-            return Err(NewFault::Limit);
+            return Err(Status::Limit);
         }
         Ok(settings)
     }
 }
 
-/// Why there is no node.
-#[repr(u32)]
-#[derive(Clone, Copy)]
-pub enum NewFault {
-    Players = 1,
-    Me = 2,
-    Limit = 4,
-    Memory = 5,
-    Skill = 6,
-    Deathmatch = 7,
-    Episode = 8,
-    Map = 9,
-}
-
-impl From<OutOfRange> for NewFault {
-    fn from(setting: OutOfRange) -> NewFault {
-        match setting {
-            OutOfRange::Skill => NewFault::Skill,
-            OutOfRange::Deathmatch => NewFault::Deathmatch,
-            OutOfRange::Episode => NewFault::Episode,
-            OutOfRange::Map => NewFault::Map,
-        }
-    }
-}
-
-#[repr(u32)]
-#[derive(Clone, Copy)]
-pub enum MadeCode {
-    Made = 0,
-    Full = 1,
-    NotPlaying = 2,
-}
+/// The end of a player that is not known.
+pub const NO_END: u32 = u32::MAX;
 
 #[repr(C)]
-pub struct Made {
-    pub code: MadeCode,
-    pub tic: u32,
-}
-
-impl Made {
-    pub const NOT_PLAYING: Made = Made { code: MadeCode::NotPlaying, tic: 0 };
-    pub const FULL: Made = Made { code: MadeCode::Full, tic: 0 };
-}
-
-#[repr(C)]
-#[derive(Clone, Copy, Default)]
-pub struct Number {
-    pub known: u32,
-    pub value: u32,
-}
-
-impl From<Option<u32>> for Number {
-    fn from(number: Option<u32>) -> Number {
-        number.map_or(Number::default(), |value| Number { known: 1, value })
-    }
-}
-
-#[repr(C)]
-#[derive(Default)]
 pub struct Aim {
-    pub known: u32,
-    pub ask: Number,
+    pub asks: u32,
+    pub ask: u32,
     pub start: u32,
     pub flags: u8,
     pub count: u8,
 }
 
+impl Aim {
+    pub fn new(ask: Option<u32>, start: u32, flags: u8, count: u8) -> Aim {
+        Aim { asks: u32::from(ask.is_some()), ask: ask.unwrap_or(0), start, flags, count }
+    }
+}
+
 #[repr(u32)]
 #[derive(Clone, Copy)]
 pub enum HeardCode {
-    Started = 0,
-    Taken = 1,
-    Stale = 2,
-    Gap = 3,
-    Left = 4,
-    Noted = 5,
-    Dropped = 6,
+    Dropped = 0,
+    Started = 1,
+    Taken = 2,
+    Stale = 3,
+    Gap = 4,
+    Left = 5,
+    Noted = 6,
 }
 
 #[repr(C)]
@@ -193,47 +184,65 @@ impl From<DropFault> for Heard {
     }
 }
 
+/// A command with its fields in the order of the header.
 #[repr(C)]
 #[derive(Clone, Copy, Default)]
-pub struct Move {
+pub struct CommandFields {
     pub turn: i16,
     pub forward: i8,
     pub side: i8,
+    pub chat: u8,
     pub buttons: u8,
-    pub present: u8,
+}
+
+impl Command {
+    /// The command that a caller gives, with the node's own mark. A forward of -128 would end a demo.
+    pub fn from_given(given: &CommandFields, mark: i16) -> Command {
+        let &CommandFields { turn, forward, side, chat, buttons } = given;
+        Command { forward: forward.max(-127), side, turn, mark, chat, buttons }
+    }
+
+    pub fn to_fields(self) -> CommandFields {
+        let Command { forward, side, turn, chat, buttons, .. } = self;
+        CommandFields { turn, forward, side, chat, buttons }
+    }
 }
 
 #[repr(u32)]
-#[derive(Clone, Copy)]
-pub enum RanCode {
-    Ran = 0,
-    Waiting = 1,
-    DemoFull = 2,
-    Inconsistent = 3,
-    NotPlaying = 4,
-}
-
-#[repr(C)]
-pub struct Ran {
-    pub code: RanCode,
-    pub tic: u32,
-    pub was: i16,
-    pub should: i16,
-    pub player: u8,
-}
-
-impl Ran {
-    pub const NOT_PLAYING: Ran = Ran::new(RanCode::NotPlaying);
-
-    pub const fn new(code: RanCode) -> Ran {
-        Ran { code, tic: 0, was: 0, should: 0, player: 0 }
-    }
+#[derive(Clone, Copy, PartialEq, Eq)]
+pub enum RunCode {
+    NotPlaying = 0,
+    Ran = 1,
+    Waiting = 2,
+    DemoFull = 3,
+    Inconsistent = 4,
 }
 
 #[repr(C)]
 #[derive(Default)]
-pub struct PhaseAnswer {
-    pub code: u32,
+pub struct Row {
+    pub tic: u32,
+    pub was: i16,
+    pub should: i16,
+    pub player: u8,
+    pub present: [u8; MAX_PLAYERS],
+    pub commands: [CommandFields; MAX_PLAYERS],
+}
+
+impl Row {
+    pub fn waiting(player: usize) -> Row {
+        Row { player: player as u8, ..Row::default() }
+    }
+
+    pub fn inconsistent(player: usize, was: i16, should: i16) -> Row {
+        Row { was, should, ..Row::waiting(player) }
+    }
+}
+
+/// Where a node stands, and why it has ended.
+#[derive(Default)]
+pub struct Standing {
+    pub phase: u32,
     pub cause: u32,
     pub was: i16,
     pub should: i16,
@@ -242,43 +251,26 @@ pub struct PhaseAnswer {
 
 #[repr(C)]
 #[derive(Default)]
-pub struct KnownSettings {
-    pub known: u32,
+pub struct State {
+    pub demo_length: usize,
+    pub phase: u32,
+    pub cause: u32,
+    pub was: i16,
+    pub should: i16,
+    pub player: u32,
+    pub me: u32,
+    pub players: u32,
+    pub made: u32,
+    pub ran: u32,
+    pub can_give: u32,
+    pub knows_settings: u32,
+    pub of_links: [u32; 5],
     pub settings: Settings,
 }
 
-/// A command with its fields in the order of the header.
 #[repr(C)]
-#[derive(Clone, Copy, Default)]
-pub struct CommandFields {
-    pub turn: i16,
-    pub mark: i16,
-    pub forward: i8,
-    pub side: i8,
-    pub chat: u8,
-    pub buttons: u8,
-}
-
-#[repr(C)]
-#[derive(Default)]
-pub struct KnownCommand {
-    pub known: u32,
-    pub command: CommandFields,
-}
-
-impl Command {
-    /// The command that a caller gives, with the node's own mark. A forward of -128 would end a demo.
-    pub fn from_given(given: &CommandFields, mark: i16) -> Command {
-        let &CommandFields { turn, forward, side, chat, buttons, .. } = given;
-        Command { forward: forward.max(-127), side, turn, mark, chat, buttons }
-    }
-
-    pub fn to_fields(self) -> CommandFields {
-        let Command { forward, side, turn, mark, chat, buttons } = self;
-        CommandFields { turn, mark, forward, side, chat, buttons }
-    }
-
-    pub fn to_move(self) -> Move {
-        Move { turn: self.turn, forward: self.forward, side: self.side, buttons: self.buttons, present: 1 }
-    }
+pub struct Player {
+    pub got: u32,
+    pub end: u32,
+    pub of_links: [u32; 8],
 }

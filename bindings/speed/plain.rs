@@ -10,15 +10,15 @@ mod calls;
 mod game;
 mod header;
 
-use game::command::{COMMAND_SIZE, Command, SLOW_TURNS, TURN_KEYS};
+use game::command::{COMMAND_SIZE, Command};
 use game::demo::{Demo, MARKER};
 use game::packet::{EXIT, HEAD_SIZE, KILL, PACKET_SIZE, Packet, RETRANSMIT, SETUP, seal};
 use game::seat::{Seat, place};
 use game::settings::Settings;
 use game::{AHEAD, KEPT, MAX_PLAYERS, TIC_LIMIT, VERSION};
 use header::{
-    Aim, CommandFields, Config, DropFault, Heard, HeardCode, KnownCommand, KnownSettings, Made, MadeCode, Move,
-    NewFault, Number, PhaseAnswer, Ran, RanCode, first_tic, settings_told, tics,
+    Aim, CommandFields, Config, DropFault, Heard, HeardCode, Row, RunCode, Standing, Status, first_tic,
+    settings_told, tics,
 };
 
 #[derive(Clone, Copy, PartialEq, Eq)]
@@ -56,8 +56,6 @@ pub struct Node {
     me: usize,
     /// How many commands each packet repeats.
     extra: u32,
-    /// For how many builds in succession a turn key was down, at most SLOW_TURNS.
-    hold: u8,
     /// How many tics were run.
     ran: u32,
     seats: [Seat; MAX_PLAYERS],
@@ -70,8 +68,13 @@ fn has_marker(packet: &Packet) -> bool {
     packet.commands.iter().any(|command| command[0] == MARKER)
 }
 
+/// The command of these keys, after so many with a turn key down.
+fn fields_of_keys(keys: u32, hold: u8) -> CommandFields {
+    Command::from_keys(keys, hold, 0).to_fields()
+}
+
 impl Node {
-    fn new(config: &Config) -> Result<Node, NewFault> {
+    fn new(config: &Config) -> Result<Node, Status> {
         let settings = config.check()?;
         Ok(Node {
             phase: if config.me == 0 { Phase::Gathering } else { Phase::Listening },
@@ -79,11 +82,10 @@ impl Node {
             players: usize::from(config.players),
             me: usize::from(config.me),
             extra: u32::from(config.extra != 0),
-            hold: 0,
             ran: 0,
             seats: [Seat::default(); MAX_PLAYERS],
             settings: (config.me == 0).then_some(settings),
-            demo: Demo::new(config.limit, config.players).map_err(|_| NewFault::Memory)?,
+            demo: Demo::new(config.limit, config.players).map_err(|_| Status::Memory)?,
         })
     }
 
@@ -96,53 +98,25 @@ impl Node {
         player < self.players && player != self.me
     }
 
-    /// Builds the next own command.
-    fn build(&mut self, keys: u32) -> Made {
-        if self.phase != Phase::Playing {
-            return Made::NOT_PLAYING;
-        }
-        let me = &mut self.seats[self.me];
-        let tic = me.count;
-        if tic - self.ran >= AHEAD {
-            return Made::FULL;
-        }
-        self.hold = if keys & TURN_KEYS != 0 { SLOW_TURNS.min(self.hold + 1) } else { 0 };
-        let at = place(tic);
-        me.commands[at] = Command::from_keys(keys, self.hold, me.marks[at]);
-        me.count = tic + 1;
-        Made { code: MadeCode::Made, tic }
-    }
-
     /// Whether a command would be made now.
-    fn can_build(&self) -> bool {
+    fn can_give(&self) -> bool {
         self.phase == Phase::Playing && self.made() - self.ran < AHEAD
     }
 
-    /// Takes the next own command from the caller. No key counts as down.
-    fn give(&mut self, given: &CommandFields) -> Made {
+    /// Takes the next own command from the caller.
+    fn give(&mut self, given: &CommandFields) -> Status {
         if self.phase != Phase::Playing {
-            return Made::NOT_PLAYING;
+            return Status::NotNow;
         }
-        if !self.can_build() {
-            return Made::FULL;
+        if !self.can_give() {
+            return Status::Full;
         }
-        self.hold = 0;
         let me = &mut self.seats[self.me];
         let tic = me.count;
         let at = place(tic);
         me.commands[at] = Command::from_given(given, me.marks[at]);
         me.count = tic + 1;
-        Made { code: MadeCode::Made, tic }
-    }
-
-    /// A player's command for a tic, where it is one of the last that are kept.
-    fn command(&self, player: u8, tic: u32) -> KnownCommand {
-        match self.seats[..self.players].get(usize::from(player)) {
-            Some(seat) if tic < seat.count && seat.count - tic <= KEPT => {
-                KnownCommand { known: 1, command: seat.commands[place(tic)].to_fields() }
-            }
-            _ => KnownCommand::default(),
-        }
+        Status::Ok
     }
 
     /// What the next packet to a player has, where there is one.
@@ -163,15 +137,13 @@ impl Node {
         Some(Outgoing::Commands { flags, ask, start })
     }
 
-    fn aim(&self, to: u8) -> Aim {
-        match self.outgoing(usize::from(to)) {
-            None => Aim::default(),
-            Some(Outgoing::SetUp(_)) => Aim { known: 1, flags: SETUP, ..Aim::default() },
-            Some(Outgoing::Commands { flags, ask, start }) => {
-                let count = (self.made() - start) as u8;
-                Aim { known: 1, ask: ask.into(), start, flags, count }
+    fn aim(&self, to: u8) -> Option<Aim> {
+        Some(match self.outgoing(usize::from(to))? {
+            Outgoing::SetUp(_) => Aim::new(None, 0, SETUP, 0),
+            Outgoing::Commands { flags, ask, start } => {
+                Aim::new(ask, start, flags, (self.made() - start) as u8)
             }
-        }
+        })
     }
 
     /// Writes the next packet to a player and answers its length, 0 for none.
@@ -310,9 +282,10 @@ impl Node {
     }
 
     /// Runs the next tic, if all commands for it are here and their marks are right.
-    fn run(&mut self, marks: &[i16; MAX_PLAYERS], row: &mut [Move; MAX_PLAYERS]) -> Ran {
+    fn run(&mut self, marks: &[i16; MAX_PLAYERS], row: &mut Row) -> RunCode {
+        *row = Row::default();
         if self.phase != Phase::Playing {
-            return Ran::NOT_PLAYING;
+            return RunCode::NotPlaying;
         }
         let tic = self.ran;
         let at = place(tic);
@@ -321,37 +294,39 @@ impl Node {
             if seat.is_gone(tic) {
                 whole = false;
             } else if seat.count <= tic {
-                return Ran { player: player as u8, ..Ran::new(RanCode::Waiting) };
+                *row = Row::waiting(player);
+                return RunCode::Waiting;
             } else if seat.is_off(at) {
                 same = false;
             }
         }
         if !same && tic > KEPT {
-            return self.differ();
+            return self.differ(row);
         }
         let most = if whole { self.demo.tics } else { TIC_LIMIT };
         if tic == most {
             self.finish(Cause::Full);
-            return Ran::new(RanCode::DemoFull);
+            return RunCode::DemoFull;
         }
         self.step(whole, marks, row);
-        Ran { tic, ..Ran::new(RanCode::Ran) }
+        RunCode::Ran
     }
 
-    /// Makes the moves of the next tic, which is `whole` where nobody is gone from it.
-    fn step(&mut self, whole: bool, marks: &[i16; MAX_PLAYERS], row: &mut [Move; MAX_PLAYERS]) {
+    /// Fills in the row of the next tic, which is `whole` where nobody is gone from it.
+    fn step(&mut self, whole: bool, marks: &[i16; MAX_PLAYERS], row: &mut Row) {
         let tic = self.ran;
         let at = place(tic);
         if !whole {
             self.demo.close();
         }
-        *row = Default::default();
+        row.tic = tic;
         for (player, seat) in self.seats[..self.players].iter_mut().enumerate() {
             if seat.is_gone(tic) {
                 continue;
             }
             let command = seat.commands[at];
-            row[player] = command.to_move();
+            row.commands[player] = command.to_fields();
+            row.present[player] = 1;
             seat.marks[at] = marks[player];
             if whole {
                 self.demo.push(&command);
@@ -361,14 +336,15 @@ impl Node {
     }
 
     /// Ends for the lowest player whose mark is off.
-    fn differ(&mut self) -> Ran {
+    fn differ(&mut self, row: &mut Row) -> RunCode {
         let at = place(self.ran);
         let is_off = |seat: &Seat| !seat.is_gone(self.ran) && seat.is_off(at);
         let player = self.seats[..self.players].iter().position(is_off).unwrap();
         let seat = &self.seats[player];
-        let (player, was, should) = (player as u8, seat.commands[at].mark, seat.marks[at]);
-        self.finish(Cause::Inconsistent { player, was, should });
-        Ran { code: RanCode::Inconsistent, tic: 0, was, should, player }
+        let (was, should) = (seat.commands[at].mark, seat.marks[at]);
+        *row = Row::inconsistent(player, was, should);
+        self.finish(Cause::Inconsistent { player: player as u8, was, should });
+        RunCode::Inconsistent
     }
 
     /// Ends a node that plays.
@@ -391,38 +367,38 @@ impl Node {
         true
     }
 
-    fn phase(&self) -> PhaseAnswer {
-        let code = match self.phase {
+    fn standing(&self) -> Standing {
+        let phase = match self.phase {
             Phase::Listening => 1,
             Phase::Gathering => 2,
             Phase::Playing => 3,
             Phase::Cancelled | Phase::Ended => 4,
         };
-        let answer = PhaseAnswer { code, ..PhaseAnswer::default() };
+        let standing = Standing { phase, ..Standing::default() };
         match self.cause {
-            None => answer,
-            Some(Cause::Quit) => PhaseAnswer { cause: 1, ..answer },
-            Some(Cause::Full) => PhaseAnswer { cause: 2, ..answer },
+            None => standing,
+            Some(Cause::Quit) => Standing { cause: 1, ..standing },
+            Some(Cause::Full) => Standing { cause: 2, ..standing },
             Some(Cause::Inconsistent { player, was, should }) => {
-                PhaseAnswer { code, cause: 3, was, should, player }
+                Standing { phase, cause: 3, was, should, player }
             }
         }
     }
 
     /// How many commands there are of a player.
-    fn got(&self, player: u8) -> Number {
-        self.seats[..self.players].get(usize::from(player)).map(|seat| seat.count).into()
+    fn got(&self, player: u8) -> Option<u32> {
+        self.seats[..self.players].get(usize::from(player)).map(|seat| seat.count)
     }
 
     /// The tic after a player's last command, where it is known.
-    fn end(&self, player: u8) -> Number {
+    fn end(&self, player: u8) -> Option<u32> {
         if usize::from(player) == self.me {
-            return (self.phase == Phase::Ended).then(|| self.made()).into();
+            return (self.phase == Phase::Ended).then(|| self.made());
         }
-        self.seats[..self.players].get(usize::from(player)).and_then(|seat| seat.end).into()
+        self.seats[..self.players].get(usize::from(player)).and_then(|seat| seat.end)
     }
 
-    fn settings(&self) -> KnownSettings {
-        self.settings.map_or(KnownSettings::default(), |settings| KnownSettings { known: 1, settings })
+    fn settings(&self) -> Option<Settings> {
+        self.settings
     }
 }

@@ -3,13 +3,13 @@
  *     seals time ROUNDS           the calls below in turn, ROUNDS times, 200 of each: nanoseconds of a call
  *     seals count CALL COMMANDS N a call N times, for datagrams of so many commands, 1 or 12
  *
- * give: a link gives a datagram with so many commands that are not acknowledged. repeated: a link hears one that it
- * has heard before. forged: one with another tag. stray: one of another game. hmac: HMAC in one call. prepared: an
- * EVP_MAC that has taken the key already, as a link's hashers have. Both are of the bytes under the datagram's tag,
- * and must come to that tag. turn: two nodes make so many commands each, give a packet, hear the other's and run the
- * tics. link_turn: the same of links. Needs OpenSSL 3. */
+ * give: a link gives a datagram with so many commands that are not acknowledged. repeated: a link hears one
+ * that it has heard before. forged: one with another tag. stray: one of another game. hmac: HMAC in one call.
+ * prepared: an EVP_MAC that has taken the key already, as a link's hashers have. Both are of the bytes under
+ * the datagram's tag, and must come to that tag. turn: two nodes make so many commands each, give a packet,
+ * hear the other's and run the tics. link_turn: the same of links. Needs OpenSSL 3. */
 #define _POSIX_C_SOURCE 199309L
-#include "zirmegat.h"
+#include "zirmegat_parts.h"
 #include <openssl/core_names.h>
 #include <openssl/evp.h>
 #include <openssl/hmac.h>
@@ -22,13 +22,16 @@ enum { TAG = 16, GAME = 2, BATCH = 200, MOST_ROUNDS = 500 };
 
 static const char LABEL[] = "zirmegat game key 1";
 
-static uint8_t secret[ZMG_SECRET_SIZE], number[ZMG_NUMBER_SIZE], key[32];
-static uint8_t datagram[ZMG_LINK_SIZE], forged[ZMG_LINK_SIZE], stray[ZMG_LINK_SIZE], code[32];
+static const zmg_command forward = { 0, 25, 0, 0, 0 };
+static const int16_t marks[4];
+static zmg_key secret;
+static zmg_game_number number;
+static uint8_t key[32];
+static uint8_t datagram[ZMG_DATAGRAM_SIZE], forged[ZMG_DATAGRAM_SIZE], stray[ZMG_DATAGRAM_SIZE], code[32];
 static size_t length;
 static unsigned commands;
 /* those that take turns, and those that stay where they are */
-static zmg_lockstep nodes[2];
-static zmg_link going[2], still[2];
+static zmg_node *nodes[2], *going[2], *still[2];
 static EVP_MAC_CTX *prepared;
 
 static void must(int holds, const char *what) {
@@ -40,15 +43,26 @@ static void must(int holds, const char *what) {
 /* ---- The calls ---- */
 
 static size_t call_give(void) {
-    static uint8_t out[ZMG_LINK_SIZE];
-    return zmg_link_datagram(&still[0], 1, out, sizeof out);
+    static uint8_t out[ZMG_DATAGRAM_SIZE];
+    return zmg_link_datagram(still[0], 1, out, sizeof out);
 }
 
-static size_t call_repeated(void) { return zmg_link_receive(&still[1], datagram, length).code; }
+static size_t call_repeated(void) {
+    zmg_received r;
+    return zmg_link_receive(still[1], datagram, length, &r);
+}
 
-static size_t call_forged(void) { return zmg_link_receive(&still[1], forged, length).reason; }
+static size_t call_forged(void) {
+    zmg_received r;
+    zmg_link_receive(still[1], forged, length, &r);
+    return r.reason;
+}
 
-static size_t call_stray(void) { return zmg_link_receive(&still[1], stray, length).reason; }
+static size_t call_stray(void) {
+    zmg_received r;
+    zmg_link_receive(still[1], stray, length, &r);
+    return r.reason;
+}
 
 static size_t call_hmac(void) {
     unsigned n = 0;
@@ -65,36 +79,35 @@ static size_t call_prepared(void) {
 }
 
 static size_t call_turn(void) {
-    static const int16_t marks[4];
     uint8_t bytes[2][ZMG_PACKET_SIZE];
     size_t n[2], ran = 0;
-    zmg_move row[4];
     for (uint8_t me = 0; me < 2; me++) {
-        for (unsigned k = 0; k < commands; k++) zmg_lockstep_build(&nodes[me], ZMG_KEY_FORWARD);
-        n[me] = zmg_lockstep_packet(&nodes[me], 1 - me, bytes[me], sizeof bytes[me]);
+        for (unsigned k = 0; k < commands; k++) zmg_node_give(nodes[me], &forward);
+        n[me] = zmg_lockstep_packet(nodes[me], 1 - me, bytes[me], sizeof bytes[me]);
     }
     for (uint8_t me = 0; me < 2; me++) {
-        zmg_lockstep_receive(&nodes[me], 1 - me, bytes[1 - me], n[1 - me]);
-        for (unsigned k = 0; k < commands; k++)
-            ran += zmg_lockstep_run(&nodes[me], marks, row).code == ZMG_RUN_RAN;
+        zmg_heard heard;
+        zmg_row row;
+        zmg_lockstep_receive(nodes[me], 1 - me, bytes[1 - me], n[1 - me], &heard);
+        for (unsigned k = 0; k < commands; k++) ran += zmg_node_run(nodes[me], marks, &row) == ZMG_RUN_RAN;
     }
     return ran;
 }
 
 static size_t call_link_turn(void) {
-    static const int16_t marks[4];
-    uint8_t bytes[2][ZMG_LINK_SIZE];
+    uint8_t bytes[2][ZMG_DATAGRAM_SIZE];
     size_t n[2], ran = 0;
-    zmg_move row[4];
     for (uint8_t me = 0; me < 2; me++) {
-        for (unsigned k = 0; k < commands; k++) zmg_link_build(&going[me], ZMG_KEY_FORWARD);
-        zmg_link_lean(&going[me]);
-        n[me] = zmg_link_datagram(&going[me], 1 - me, bytes[me], sizeof bytes[me]);
+        int32_t later;
+        for (unsigned k = 0; k < commands; k++) zmg_node_give(going[me], &forward);
+        zmg_link_tick(going[me], &later);
+        n[me] = zmg_link_datagram(going[me], 1 - me, bytes[me], sizeof bytes[me]);
     }
     for (uint8_t me = 0; me < 2; me++) {
-        zmg_link_receive(&going[me], bytes[1 - me], n[1 - me]);
-        for (unsigned k = 0; k < commands; k++)
-            ran += zmg_link_run(&going[me], marks, row).code == ZMG_RUN_RAN;
+        zmg_received received;
+        zmg_row row;
+        zmg_link_receive(going[me], bytes[1 - me], n[1 - me], &received);
+        for (unsigned k = 0; k < commands; k++) ran += zmg_node_run(going[me], marks, &row) == ZMG_RUN_RAN;
     }
     return ran;
 }
@@ -113,64 +126,72 @@ static const struct {
 
 /* The game's key, as docs/PROTOCOL.md derives it. */
 static void prepare(void) {
-    uint8_t message[sizeof LABEL - 1 + ZMG_NUMBER_SIZE];
+    uint8_t message[sizeof LABEL - 1 + sizeof number];
     char digest[] = "SHA256";
     OSSL_PARAM params[2];
     memcpy(message, LABEL, sizeof LABEL - 1);
-    memcpy(message + sizeof LABEL - 1, number, sizeof number);
-    HMAC(EVP_sha256(), secret, sizeof secret, message, sizeof message, key, NULL);
+    memcpy(message + sizeof LABEL - 1, number.bytes, sizeof number);
+    HMAC(EVP_sha256(), secret.bytes, sizeof secret, message, sizeof message, key, NULL);
     params[0] = OSSL_PARAM_construct_utf8_string(OSSL_MAC_PARAM_DIGEST, digest, 0);
     params[1] = OSSL_PARAM_construct_end();
     prepared = EVP_MAC_CTX_new(EVP_MAC_fetch(NULL, "HMAC", NULL));
     must(prepared && EVP_MAC_init(prepared, key, sizeof key, params), "there is an HMAC");
 }
 
-static zmg_config config_of(uint8_t me) {
-    zmg_config c = { 1 << 24, 2, me, 0, { 3, 1, 0, 0, 1, 7 } };
+static zmg_node_config config_of(uint8_t me) {
+    zmg_node_config c;
+    zmg_node_config_init(&c);
+    c.me = me;
+    c.window = 12;
+    c.secret = secret;
+    c.game = number;
     return c;
 }
 
 static void begin_nodes(void) {
     uint8_t bytes[ZMG_PACKET_SIZE];
     for (uint8_t me = 0; me < 2; me++) {
-        zmg_config c = config_of(me);
-        must(zmg_lockstep_new_within(&nodes[me], &c, ZMG_WIDEST_AHEAD) == ZMG_NEW_OK, "a node");
+        zmg_node_config c = config_of(me);
+        must(zmg_lockstep_new(&nodes[me], &c) == ZMG_OK, "a node");
     }
     for (uint8_t me = 0; me < 2; me++) {
-        size_t n = zmg_lockstep_packet(&nodes[me], 1 - me, bytes, sizeof bytes);
-        must(zmg_lockstep_receive(&nodes[1 - me], me, bytes, n).code == ZMG_RECEIVE_STARTED, "started");
+        zmg_heard heard;
+        size_t n = zmg_lockstep_packet(nodes[me], 1 - me, bytes, sizeof bytes);
+        must(zmg_lockstep_receive(nodes[1 - me], me, bytes, n, &heard) == ZMG_HEARD_STARTED, "started");
     }
 }
 
-static void begin_links(zmg_link *links) {
+static void begin_links(zmg_node **links) {
     for (uint8_t me = 0; me < 2; me++) {
-        zmg_config c = config_of(me);
-        must(zmg_link_new(&links[me], &c, ZMG_WIDEST_AHEAD, secret, number) == ZMG_NEW_OK, "a link");
+        zmg_node_config c = config_of(me);
+        must(zmg_link_new(&links[me], &c) == ZMG_OK, "a link");
     }
 }
 
-/* Games that have begun. Of the links that stay, player 1 has heard a datagram of player 0 with all commands, each
- * of which was given in a packet of its own, and has acknowledged none. */
+/* Games that have begun. Of the links that stay, player 1 has heard a datagram of player 0 with all commands,
+ * each of which was given in a packet of its own, and has acknowledged none. */
 static void play(void) {
+    zmg_node_player seen;
     begin_nodes();
     begin_links(going);
     begin_links(still);
     for (unsigned k = 0; k < commands; k++) {
-        zmg_link_build(&still[0], ZMG_KEY_FORWARD);
-        length = zmg_link_datagram(&still[0], 1, datagram, sizeof datagram);
+        zmg_node_give(still[0], &forward);
+        length = zmg_link_datagram(still[0], 1, datagram, sizeof datagram);
     }
     must(length == 65 + 8 * commands, "the datagram has all commands");
     memcpy(forged, datagram, length);
     forged[length - 1] ^= 1;
     memcpy(stray, datagram, length);
     stray[GAME] ^= 1;
-    must(call_repeated() == ZMG_LINK_RECEIVE_HEARD && zmg_link_got(&still[1], 0).value == commands, "heard");
+    must(call_repeated() == ZMG_RECEIVED_HEARD, "heard");
+    must(zmg_node_player_get(still[1], 0, &seen, sizeof seen) == ZMG_OK && seen.got == commands, "all are here");
     for (unsigned k = 0; k < 2; k++) {
-        must(call_give() == length && call_repeated() == ZMG_LINK_RECEIVE_HEARD, "given and heard again");
-        must(call_forged() == ZMG_BUNDLE_TAG && call_stray() == ZMG_BUNDLE_GAME, "not opened");
+        must(call_give() == length && call_repeated() == ZMG_RECEIVED_HEARD, "given and heard again");
+        must(call_forged() == ZMG_UNOPENED_TAG && call_stray() == ZMG_UNOPENED_GAME, "not opened");
         must(call_turn() == 2 * commands && call_link_turn() == 2 * commands, "whole turns");
     }
-    must(zmg_link_line(&still[1], 0).repeated == 2, "repeated");
+    must(zmg_node_player_get(still[1], 0, &seen, sizeof seen) == ZMG_OK && seen.line.repeated == 2, "repeated");
     for (int k = ONCE; k <= PREPARED; k++) {
         memset(code, 0, sizeof code);
         must(calls[k].call() == 32 && memcmp(code, datagram + length - TAG, TAG) == 0, "OpenSSL's tag");
@@ -179,9 +200,9 @@ static void play(void) {
 
 static void give_up(void) {
     for (unsigned k = 0; k < 2; k++) {
-        zmg_lockstep_free(&nodes[k]);
-        zmg_link_free(&going[k]);
-        zmg_link_free(&still[k]);
+        zmg_node_free(nodes[k]);
+        zmg_node_free(going[k]);
+        zmg_node_free(still[k]);
     }
 }
 
@@ -216,8 +237,8 @@ static void time_all(int rounds) {
 }
 
 int main(int argc, char **argv) {
-    for (unsigned k = 0; k < sizeof secret; k++) secret[k] = (uint8_t)(k + 1);
-    for (unsigned k = 0; k < sizeof number; k++) number[k] = (uint8_t)(200 + k);
+    for (unsigned k = 0; k < sizeof secret; k++) secret.bytes[k] = (uint8_t)(k + 1);
+    for (unsigned k = 0; k < sizeof number; k++) number.bytes[k] = (uint8_t)(200 + k);
     prepare();
     if (argc == 3 && strcmp(argv[1], "time") == 0) {
         int rounds = atoi(argv[2]);

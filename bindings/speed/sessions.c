@@ -6,7 +6,7 @@
 #include <stdlib.h>
 #include <string.h>
 
-static zmg_session sessions[2];
+static zmg_session *sessions[2];
 static unsigned long datagrams, looks, tics;
 
 static void stop(const char *why) {
@@ -31,39 +31,40 @@ static void open_both(uint32_t now) {
     zmg_join_config_init(&joins);
     joins.host = address_of(0);
     memset(&joins.random, 2, sizeof joins.random);
-    hosts.terms.own[0] = hosts.key[0] = joins.key[0] = hosts.name[0] = joins.name[0] = 'a';
-    if (zmg_session_host(&sessions[0], &hosts) != ZMG_STATUS_OK) stop("no host");
-    if (zmg_session_join(&sessions[1], &joins, now) != ZMG_STATUS_OK) stop("no joiner");
+    hosts.terms.own[0] = hosts.key.bytes[0] = joins.key.bytes[0] = 97;
+    hosts.name.text[0] = joins.name.text[0] = 'a';
+    if (zmg_session_host(&sessions[0], &hosts) != ZMG_OK) stop("no host");
+    if (zmg_session_join(&sessions[1], &joins, now) != ZMG_OK) stop("no joiner");
 }
 
 static void carry(unsigned who, uint32_t now, int more) {
     const zmg_address from = address_of(who);
     zmg_address to;
-    uint8_t bytes[ZMG_SESSION_SIZE];
+    uint8_t bytes[ZMG_DATAGRAM_SIZE];
     size_t n;
-    while ((n = zmg_session_transmit(&sessions[who], &to, bytes, sizeof bytes)) > 0) {
+    while ((n = zmg_session_transmit(sessions[who], &to, bytes, sizeof bytes)) > 0) {
         datagrams++;
-        zmg_session_receive(&sessions[1 - who], &from, bytes, n, now);
+        zmg_session_receive(sessions[1 - who], &from, bytes, n, now);
     }
     for (looks++; more > 0; more--)
-        if (zmg_session_transmit(&sessions[who], &to, bytes, sizeof bytes) > 0) stop("more was sent");
+        if (zmg_session_transmit(sessions[who], &to, bytes, sizeof bytes) > 0) stop("more was sent");
 }
 
 static void turn(unsigned who, uint32_t now, int more) {
     static int plays[2];
     const int16_t marks[4] = { 0, 0, 0, 0 };
-    zmg_known_command row[4];
+    zmg_row row;
     zmg_event event;
-    if (zmg_session_poll(&sessions[who], now) != ZMG_STATUS_OK) stop("no memory");
-    while ((event = zmg_session_event(&sessions[who])).kind != ZMG_EVENT_NONE)
+    if (zmg_session_poll(sessions[who], now) != ZMG_OK) stop("no memory");
+    while (zmg_session_event(sessions[who], &event) != ZMG_EVENT_NONE)
         plays[who] |= event.kind == ZMG_EVENT_BEGAN;
-    while (zmg_session_wants_input(&sessions[who], now)) {
-        zmg_command command = { 25, 0, 0, 0, 0, 0 };
+    while (zmg_session_wants_input(sessions[who], now)) {
+        zmg_command command = { 0, 0, 0, 0, 0 };
         command.turn = (int16_t)now;
-        zmg_session_give(&sessions[who], &command, now);
+        zmg_session_give(sessions[who], &command, now);
     }
     carry(who, now, more);
-    while (plays[who] && zmg_session_run(&sessions[who], marks, row).code == ZMG_TIC_RAN) tics += who == 0;
+    while (plays[who] && zmg_session_run(sessions[who], marks, &row) == ZMG_RUN_RAN) tics += who == 0;
     carry(who, now, more);
 }
 

@@ -11,10 +11,10 @@ mod calls;
 #[allow(dead_code)] // its commands, packets, rings and moves of a demo are its own
 #[path = "../../checks/plain/game/mod.rs"]
 mod game;
-#[allow(dead_code)] // and so are Ran and the conversions of commands
+#[allow(dead_code)] // and so are the conversions of commands
 mod header;
 
-use game::command::{SLOW_TURNS, TURN_KEYS};
+use game::command::SLOW_TURNS;
 use game::demo::{Demo, MARKER, MOVE_SIZE};
 use game::packet::{
     EXIT, FLAGS_SHIFT, KILL, NoPacket, PACKET_SIZE, RETRANSMIT, SETUP, SUM_MASK, SUM_SEED, expand,
@@ -22,42 +22,13 @@ use game::packet::{
 use game::settings::Settings;
 use game::{AHEAD, KEPT, MAX_PLAYERS, PAUSE, TIC_LIMIT, VERSION};
 use header::{
-    Aim, CommandFields, Config, DropFault, Heard, HeardCode, KnownCommand, KnownSettings, Made, MadeCode, Move,
-    NewFault, Number, PhaseAnswer, RanCode, first_tic, settings_told, tics,
+    Aim, CommandFields, Config, DropFault, Heard, HeardCode, Row, RunCode, Standing, Status, first_tic,
+    settings_told, tics,
 };
 
 const PLACES: usize = 16; // a power of two above the twelve that the game keeps
 const NEVER: u32 = u32::MAX;
 const MOVE: usize = MOVE_SIZE as usize;
-
-/// zmg_ran as the two registers that it is returned in: code and tic, and was, should and player. A struct of
-/// its fields would be put together in memory, and its halves loaded before their stores are done.
-#[repr(C)]
-pub struct Ran {
-    code_tic: u64,
-    rest: u64,
-}
-
-impl Ran {
-    #[inline(always)]
-    fn ran(tic: u32) -> Ran {
-        Ran { code_tic: (tic as u64) << 32, rest: 0 }
-    }
-
-    #[inline(always)]
-    fn waiting(player: usize) -> Ran {
-        Ran { code_tic: RanCode::Waiting as u64, rest: (player as u64) << 32 }
-    }
-
-    const FULL: Ran = Ran { code_tic: RanCode::DemoFull as u64, rest: 0 };
-
-    fn inconsistent(player: usize, was: i16, should: i16) -> Ran {
-        let rest = was as u16 as u64 | (should as u16 as u64) << 16 | (player as u64) << 32;
-        Ran { code_tic: RanCode::Inconsistent as u64, rest }
-    }
-
-    const NOT_PLAYING: Ran = Ran { code_tic: RanCode::NotPlaying as u64, rest: 0 };
-}
 
 // ---- A command --------------------------------------------------------------------------------------------
 
@@ -90,10 +61,10 @@ impl Command {
         Command(plain.0 | high << 48)
     }
 
+    #[inline(always)]
     fn fields(self) -> CommandFields {
         CommandFields {
             turn: (self.0 >> 16) as i16,
-            mark: self.mark(),
             forward: self.0 as i8,
             side: (self.0 >> 8) as i8,
             chat: (self.0 >> 48) as u8,
@@ -104,17 +75,6 @@ impl Command {
     #[inline(always)]
     fn is_stop(self) -> bool {
         self.0 as u8 == MARKER
-    }
-
-    #[inline(always)]
-    fn step(self) -> Move {
-        Move {
-            turn: (self.0 >> 16) as i16,
-            forward: self.0 as i8,
-            side: (self.0 >> 8) as i8,
-            buttons: self.buttons(),
-            present: 1,
-        }
     }
 
     /// What it adds to a sum, as the words at `factor` and `factor + 1`.
@@ -218,7 +178,6 @@ pub struct Node {
     me: u8,
     /// How many commands each packet repeats.
     lag: u8,
-    hold: u8,
     played: bool,
     known: bool,
     ran: u32,
@@ -260,16 +219,20 @@ fn dropped(fault: impl Into<DropFault>) -> Heard {
     Heard::from(fault.into())
 }
 
+/// The command of these keys, after so many with a turn key down.
+fn fields_of_keys(keys: u32, hold: u8) -> CommandFields {
+    command(keys, hold, 0).fields()
+}
+
 impl Node {
-    fn new(config: &Config) -> Result<Node, NewFault> {
+    fn new(config: &Config) -> Result<Node, Status> {
         let settings = config.check()?;
-        let demo = Demo::new(config.limit, config.players).map_err(|_| NewFault::Memory)?;
+        let demo = Demo::new(config.limit, config.players).map_err(|_| Status::Memory)?;
         Ok(Node {
             phase: if config.me == 0 { Phase::Gathering } else { Phase::Listening },
             players: config.players,
             me: config.me,
             lag: (config.extra != 0) as u8,
-            hold: 0,
             played: false,
             heard: 0,
             ran: 0,
@@ -312,47 +275,23 @@ impl Node {
         }
     }
 
+    fn can_give(&self) -> bool {
+        self.phase == Phase::Playing && self.made() - self.ran < AHEAD
+    }
+
     #[inline(always)]
-    fn build(&mut self, keys: u32) -> Made {
+    fn give(&mut self, given: &CommandFields) -> Status {
         if self.phase != Phase::Playing {
-            return Made::NOT_PLAYING;
+            return Status::NotNow;
         }
         let me = of(self.me);
         let tic = self.count[me];
         if tic - self.ran >= AHEAD {
-            return Made::FULL;
+            return Status::Full;
         }
-        self.hold = if keys & TURN_KEYS != 0 { (self.hold + 1).min(SLOW_TURNS) } else { 0 };
-        self.put(me, tic, command(keys, self.hold, self.marks[me][place(tic)]));
-        self.count[me] = tic + 1;
-        Made { code: MadeCode::Made, tic }
-    }
-
-    fn can_build(&self) -> bool {
-        self.phase == Phase::Playing && self.made() - self.ran < AHEAD
-    }
-
-    fn give(&mut self, given: &CommandFields) -> Made {
-        if self.phase != Phase::Playing {
-            return Made::NOT_PLAYING;
-        }
-        if !self.can_build() {
-            return Made::FULL;
-        }
-        let me = of(self.me);
-        let tic = self.count[me];
-        self.hold = 0;
         self.put(me, tic, Command::given(given, self.marks[me][place(tic)]));
         self.count[me] = tic + 1;
-        Made { code: MadeCode::Made, tic }
-    }
-
-    fn command(&self, player: u8, tic: u32) -> KnownCommand {
-        let count = self.count[of(player)];
-        if player >= self.players || tic >= count || count - tic > KEPT {
-            return KnownCommand::default();
-        }
-        KnownCommand { known: 1, command: self.commands[of(player)][place(tic)].fields() }
+        Status::Ok
     }
 
     /// The first tic of the next packet to a player.
@@ -412,9 +351,9 @@ impl Node {
         8
     }
 
-    fn aim(&self, to: u8) -> Aim {
+    fn aim(&self, to: u8) -> Option<Aim> {
         if to == self.me || to >= self.players {
-            return Aim::default();
+            return None;
         }
         let made = self.made();
         let to = of(to);
@@ -423,19 +362,11 @@ impl Node {
             Phase::Playing if ask => RETRANSMIT,
             Phase::Playing => 0,
             Phase::Ended if self.played => EXIT,
-            Phase::Gathering => {
-                return Aim { known: 1, flags: SETUP, ..Aim::default() };
-            }
-            _ => return Aim::default(),
+            Phase::Gathering => return Some(Aim::new(None, 0, SETUP, 0)),
+            _ => return None,
         };
         let start = self.first_sent(made, self.resend[to]);
-        Aim {
-            known: 1,
-            ask: ask.then(|| self.count[to]).into(),
-            start,
-            flags,
-            count: (made - start) as u8,
-        }
+        Some(Aim::new(ask.then(|| self.count[to]), start, flags, (made - start) as u8))
     }
 
     #[inline(always)]
@@ -577,9 +508,10 @@ impl Node {
     }
 
     #[inline(always)]
-    fn run(&mut self, marks: &[i16; MAX_PLAYERS], row: &mut [Move; MAX_PLAYERS]) -> Ran {
+    fn run(&mut self, marks: &[i16; MAX_PLAYERS], row: &mut Row) -> RunCode {
+        *row = Row::default();
         if self.phase != Phase::Playing {
-            return Ran::NOT_PLAYING;
+            return RunCode::NotPlaying;
         }
         let tic = self.ran;
         let players = self.players.min(4) as usize;
@@ -588,28 +520,30 @@ impl Node {
             if tic >= self.end[p] {
                 whole = false;
             } else if tic >= self.count[p] {
-                return Ran::waiting(p);
+                row.player = p as u8;
+                return RunCode::Waiting;
             } else {
                 same &= self.commands[p][place(tic)].mark() == self.marks[p][place(tic)];
             }
         }
         if !same && tic > KEPT {
-            return self.differ();
+            return self.differ(row);
         }
         if !whole {
             return self.run_part(marks, row);
         }
         if tic == self.demo.tics {
             self.finish(2);
-            return Ran::FULL;
+            return RunCode::DemoFull;
         }
-        *row = Default::default();
+        row.tic = tic;
         let length = self.demo.bytes.len();
         // the capacity leaves room for this row and the marker
         let mut at = unsafe { self.demo.bytes.as_mut_ptr().add(length) };
         for p in 0..players {
             let command = self.commands[p][place(tic)];
-            row[p] = command.step();
+            row.commands[p] = command.fields();
+            row.present[p] = 1;
             self.marks[p][place(tic + KEPT)] = marks[p];
             unsafe {
                 at.cast::<[u8; 4]>().write((command.0 as u32).to_le_bytes());
@@ -619,42 +553,44 @@ impl Node {
         }
         unsafe { self.demo.bytes.set_len(length + MOVE * players) };
         self.ran = tic + 1;
-        Ran::ran(tic)
+        RunCode::Ran
     }
 
     /// Runs a tic that some player has no part in.
     #[cold]
-    fn run_part(&mut self, marks: &[i16; MAX_PLAYERS], row: &mut [Move; MAX_PLAYERS]) -> Ran {
+    fn run_part(&mut self, marks: &[i16; MAX_PLAYERS], row: &mut Row) -> RunCode {
         let tic = self.ran;
         if tic == TIC_LIMIT {
             self.finish(2);
-            return Ran::FULL;
+            return RunCode::DemoFull;
         }
-        *row = Default::default();
+        row.tic = tic;
         for p in 0..self.players.min(4) as usize {
             if tic < self.end[p] {
-                row[p] = self.commands[p][place(tic)].step();
+                row.commands[p] = self.commands[p][place(tic)].fields();
+                row.present[p] = 1;
                 self.marks[p][place(tic + KEPT)] = marks[p];
             }
         }
         self.demo.close();
         self.ran = tic + 1;
-        Ran::ran(tic)
+        RunCode::Ran
     }
 
     /// Ends for the lowest player whose mark is off.
     #[cold]
-    fn differ(&mut self) -> Ran {
+    fn differ(&mut self, row: &mut Row) -> RunCode {
         let tic = self.ran;
         for p in 0..self.players.min(4) as usize {
             let (was, should) = (self.commands[p][place(tic)].mark(), self.marks[p][place(tic)]);
             if tic < self.end[p] && was != should {
                 self.finish(3);
                 (self.off, self.was, self.should) = (p as u8, was, should);
-                return Ran::inconsistent(p, was, should);
+                *row = Row::inconsistent(p, was, should);
+                return RunCode::Inconsistent;
             }
         }
-        Ran::NOT_PLAYING
+        RunCode::NotPlaying
     }
 
     #[cold]
@@ -673,28 +609,28 @@ impl Node {
         true
     }
 
-    fn phase(&self) -> PhaseAnswer {
+    fn standing(&self) -> Standing {
         let &Node { phase, cause, was, should, off: player, .. } = self;
-        PhaseAnswer { code: phase as u32, cause, was, should, player }
+        Standing { phase: phase as u32, cause, was, should, player }
     }
 
-    fn got(&self, player: u8) -> Number {
-        (player < self.players).then(|| self.count[of(player)]).into()
+    fn got(&self, player: u8) -> Option<u32> {
+        (player < self.players).then(|| self.count[of(player)])
     }
 
-    fn settings(&self) -> KnownSettings {
-        if self.known { KnownSettings { known: 1, settings: self.settings } } else { KnownSettings::default() }
+    fn settings(&self) -> Option<Settings> {
+        self.known.then_some(self.settings)
     }
 
-    fn end(&self, player: u8) -> Number {
+    fn end(&self, player: u8) -> Option<u32> {
         if player >= self.players {
-            return Number::default();
+            return None;
         }
         let end = if player == self.me {
             if self.phase == Phase::Ended && self.played { self.made() } else { NEVER }
         } else {
             self.end[of(player)]
         };
-        if end == NEVER { Number::default() } else { Number { known: 1, value: end } }
+        (end != NEVER).then_some(end)
     }
 }

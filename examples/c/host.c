@@ -7,7 +7,7 @@
  * and prints where the players end. It builds as fast as the line allows, an engine 35 times a second. */
 #define _POSIX_C_SOURCE 200809L
 #include "walk.h"
-#include "zirmegat.h"
+#include "zirmegat_parts.h"
 #include <arpa/inet.h>
 #include <poll.h>
 #include <stdio.h>
@@ -19,9 +19,9 @@
 enum { PLAYERS = 2, DEMO = 131072, SECONDS = 60, SILENCE = 3, FAREWELLS = 20, POLLS = 32 };
 
 typedef struct engine {
-    zmg_lockstep node;
+    zmg_node *node;
     walk world;
-    uint8_t me;
+    uint8_t me, hold;
     int line;
     uint16_t base;
     uint32_t tics, seed;
@@ -49,7 +49,7 @@ static void give(engine *e) {
     uint8_t bytes[ZMG_PACKET_SIZE];
     for (uint8_t to = 0; to < PLAYERS; to++) {
         struct sockaddr_in at = address((uint16_t)(e->base + to));
-        size_t length = zmg_lockstep_packet(&e->node, to, bytes, sizeof bytes);
+        size_t length = zmg_lockstep_packet(e->node, to, bytes, sizeof bytes);
         if (length) (void)!sendto(e->line, bytes, length, 0, (struct sockaddr *)&at, sizeof at);
     }
 }
@@ -65,8 +65,9 @@ static void hear(engine *e) {
         if (length < 0) return;
         unsigned from = (unsigned)ntohs(at.sin_port) - e->base;
         if (at.sin_addr.s_addr == htonl(INADDR_LOOPBACK) && from < PLAYERS) {
-            zmg_heard heard = zmg_lockstep_receive(&e->node, (uint8_t)from, bytes, (size_t)length);
-            if (heard.code == ZMG_RECEIVE_STARTED) walk_begin(&e->world, zmg_lockstep_players(&e->node));
+            zmg_heard heard;
+            zmg_heard_code code = zmg_lockstep_receive(e->node, (uint8_t)from, bytes, (size_t)length, &heard);
+            if (code == ZMG_HEARD_STARTED) walk_begin(&e->world, PLAYERS);
             e->heard = time(NULL);
         }
         size = sizeof at;
@@ -77,23 +78,39 @@ static void hear(engine *e) {
 static int run(engine *e) {
     for (;;) {
         int16_t marks[4];
-        zmg_move row[4];
+        zmg_row row;
         walk_marks(&e->world, marks);
-        zmg_ran ran = zmg_lockstep_run(&e->node, marks, row);
-        switch (ran.code) {
-        case ZMG_RUN_RAN: walk_step(&e->world, row); break;
+        switch (zmg_node_run(e->node, marks, &row)) {
+        case ZMG_RUN_RAN: walk_step(&e->world, &row); break;
         case ZMG_RUN_DEMO_FULL: fprintf(stderr, "the demo is full\n"); return 0;
         case ZMG_RUN_INCONSISTENT:
-            fprintf(stderr, "worlds differ: player %u, %d for %d\n", ran.player, ran.was, ran.should);
+            fprintf(stderr, "worlds differ: player %u, %d for %d\n", row.player, row.was, row.should);
             return 0;
         default: return 1;
         }
     }
 }
 
-static int is_done(engine *e) {
-    int gone = zmg_lockstep_end(&e->node, (uint8_t)(1 - e->me)).known || time(NULL) - e->heard > SILENCE;
-    return zmg_lockstep_ran(&e->node) >= e->tics && gone;
+static zmg_node_state state(const engine *e) {
+    zmg_node_state now;
+    zmg_node_state_get(e->node, &now, sizeof now);
+    return now;
+}
+
+static int is_done(const engine *e) {
+    zmg_node_player other;
+    zmg_node_player_get(e->node, (uint8_t)(1 - e->me), &other, sizeof other);
+    int gone = other.end != ZMG_NO_END || time(NULL) - e->heard > SILENCE;
+    return state(e).ran >= e->tics && gone;
+}
+
+/* Takes the next command, if the node can make it. */
+static void take(engine *e) {
+    zmg_command command;
+    zmg_node_state now = state(e);
+    if (!now.can_give || now.made >= e->tics) return;
+    zmg_command_from_keys(&e->hold, draw(&e->seed), &command);
+    zmg_node_give(e->node, &command);
 }
 
 static int play(engine *e) {
@@ -101,7 +118,7 @@ static int play(engine *e) {
     while (!is_done(e)) {
         struct pollfd ready = { e->line, POLLIN, 0 };
         if (time(NULL) - start > SECONDS) return 0;
-        if (zmg_lockstep_made(&e->node) < e->tics) zmg_lockstep_build(&e->node, draw(&e->seed));
+        take(e);
         give(e);
         poll(&ready, 1, 1);
         hear(e);
@@ -112,7 +129,7 @@ static int play(engine *e) {
 
 /* Shows the other player where this one's commands end, and receives what it still asks for. */
 static void leave(engine *e) {
-    zmg_lockstep_quit(&e->node);
+    zmg_node_quit(e->node);
     for (int k = 0; k < FAREWELLS; k++) {
         struct pollfd ready = { e->line, POLLIN, 0 };
         give(e);
@@ -123,7 +140,7 @@ static void leave(engine *e) {
 
 static int save(engine *e, const char *name) {
     static uint8_t bytes[DEMO];
-    size_t length = zmg_lockstep_demo(&e->node, 0, bytes, sizeof bytes);
+    size_t length = zmg_node_demo(e->node, 0, bytes, sizeof bytes);
     FILE *file = fopen(name, "wb");
     return file && fwrite(bytes, 1, length, file) == length && fclose(file) == 0;
 }
@@ -146,13 +163,17 @@ int main(int argc, char **argv) {
     e.base = (uint16_t)atoi(argv[2]);
     e.tics = (uint32_t)atol(argv[3]);
     e.seed = (uint32_t)atol(argv[4]);
-    zmg_config config = { DEMO, PLAYERS, e.me, 0, { 2, 0, 0, 0, 1, 1 } };
-    if (zmg_lockstep_new(&e.node, &config) != ZMG_NEW_OK || !open_line(&e)) return 2;
+    zmg_node_config config;
+    zmg_node_config_init(&config);
+    config.limit = DEMO;
+    config.players = PLAYERS;
+    config.me = e.me;
+    if (zmg_lockstep_new(&e.node, &config) != ZMG_OK || !open_line(&e)) return 2;
     int played = play(&e);
     leave(&e);
     print_spots(&e.world);
     int saved = save(&e, argv[5]);
-    zmg_lockstep_free(&e.node);
+    zmg_node_free(e.node);
     close(e.line);
     return played && saved ? 0 : 1;
 }

@@ -3,7 +3,6 @@
 #define WALK_H
 
 #include "zirmegat.h"
-#include <string.h>
 
 typedef struct spot {
     uint32_t x, y; /* in 65536ths of a map unit, as two's complement */
@@ -23,7 +22,7 @@ static void walk_begin(walk *world, unsigned players) {
     }
 }
 
-static void spot_go(spot *s, const zmg_move *move) {
+static void spot_go(spot *s, const zmg_command *move) {
     uint32_t forward = (uint32_t)(move->forward * 2048), side = (uint32_t)(move->side * 2048);
     s->angle = (uint16_t)(s->angle + (uint16_t)move->turn);
     switch (s->angle / 16384) {
@@ -35,9 +34,9 @@ static void spot_go(spot *s, const zmg_move *move) {
     s->x += move->buttons;
 }
 
-static void walk_step(walk *world, const zmg_move row[4]) {
+static void walk_step(walk *world, const zmg_row *row) {
     for (unsigned p = 0; p < 4; p++)
-        if (row[p].present) spot_go(&world->spots[p], &row[p]);
+        if (row->present[p]) spot_go(&world->spots[p], &row->commands[p]);
 }
 
 static void walk_marks(const walk *world, int16_t marks[4]) {

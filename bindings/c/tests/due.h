@@ -3,7 +3,7 @@
 #define DUE_H
 
 #include "must.h"
-#include "zirmegat.h"
+#include "zirmegat_parts.h"
 #include <stdint.h>
 #include <string.h>
 
@@ -14,7 +14,7 @@ enum { FLIGHTS = 16384, SPAN = 1024 };
 typedef struct flight {
     uint32_t next;
     size_t length;
-    uint8_t from, to, changed, bytes[ZMG_LINK_SIZE + 1];
+    uint8_t from, to, changed, bytes[ZMG_DATAGRAM_SIZE + 1];
 } flight;
 
 /* now: the turn, which the test counts. Places are linked by their numbers, 0 for none. */

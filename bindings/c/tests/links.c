@@ -11,7 +11,6 @@
 #include "due.h"
 #include "engine.h"
 #include "must.h"
-#include "zirmegat.h"
 #include <stdio.h>
 #include <stdlib.h>
 #include <string.h>
@@ -35,13 +34,15 @@ typedef struct player {
     stage is;
     uint32_t comes, quits, stopped, last_run, quit_at, left_at, turns;
     uint16_t world;
-    uint8_t may_leave;
+    uint8_t may_leave, hold;
 } player;
 
 static uint32_t players, lost, slowest;
-static zmg_link links[LINKS];
+static zmg_node *links[LINKS];
 static player all[NODES];
-static uint8_t secret[ZMG_SECRET_SIZE], number[ZMG_NUMBER_SIZE], ahead;
+static zmg_key secret;
+static zmg_game_number number;
+static uint8_t window;
 static uint32_t limit;
 static unsigned long games, heard, unopened[16], strangers, full, caught_up, seconds, rests, alone, early,
     carried;
@@ -53,21 +54,23 @@ static agreement common;
 
 /* ---- Links ---- */
 
-static void make(unsigned k, uint8_t me, uint32_t of, const uint8_t *with, const uint8_t *in) {
-    zmg_config c = config_of(limit, of, me);
-    MUST(zmg_link_new(&links[k], &c, ahead, with, in) == ZMG_NEW_OK);
+static void make(unsigned k, uint8_t me, uint32_t of, const zmg_key *with, const zmg_game_number *in) {
+    zmg_node_config c = config_of(limit, of, me);
+    c.window = window;
+    c.secret = *with;
+    c.game = *in;
+    MUST(zmg_link_new(&links[k], &c) == ZMG_OK);
 }
 
 static void make_strangers(void) {
-    uint8_t other[ZMG_SECRET_SIZE];
-    memcpy(other, secret, sizeof other);
-    other[ZMG_SECRET_SIZE - 1] ^= 1;
-    make(FORGER, 0, players, other, number);
-    memcpy(other, number, ZMG_NUMBER_SIZE);
+    zmg_key other = secret;
+    zmg_game_number another = number;
+    other.bytes[sizeof other - 1] ^= 1;
+    make(FORGER, 0, players, &other, &number);
     /* in the half that a datagram has, or in the other */
-    other[below(2) ? 0 : ZMG_NUMBER_SIZE - 1] ^= 1;
-    make(OTHER_GAME, 0, players, secret, other);
-    if (players < NODES) make(OUTSIDER, NODES - 1, NODES, secret, number);
+    another.bytes[below(2) ? 0 : sizeof another - 1] ^= 1;
+    make(OTHER_GAME, 0, players, &secret, &another);
+    if (players < NODES) make(OUTSIDER, NODES - 1, NODES, &secret, &number);
 }
 
 /* What is still on the way when a game ends: how much. */
@@ -94,7 +97,7 @@ static void carry_over(void) {
 static void open_game(void) {
     uint32_t late;
     players = 2 + below(3);
-    ahead = (uint8_t)(1 + below(ZMG_WIDEST_AHEAD));
+    window = (uint8_t)(1 + below(12));
     /* in one of eight games most stay until the demo is full */
     limit = below(4) ? 65536 : 1024 + below(2000);
     late = limit < 65536 && below(2) ? LAST : 0;
@@ -102,8 +105,8 @@ static void open_game(void) {
     slowest = 1 + below(20);
     now = 0;
     begin_agreement(&common);
-    if (games == 0 || below(2)) fill(secret, sizeof secret);
-    fill(number, sizeof number);
+    if (games == 0 || below(2)) fill(secret.bytes, sizeof secret);
+    fill(number.bytes, sizeof number);
     memset(all, 0, sizeof all);
     carry_over();
     for (uint32_t p = 0; p < players; p++) {
@@ -146,10 +149,10 @@ static void carry(flight *f) {
 
 static void give(unsigned from, uint8_t to) {
     static flight f;
-    MUST(zmg_link_datagram(&links[from], to, f.bytes, ZMG_LINK_SIZE - 1) == 0);
-    f.length = zmg_link_datagram(&links[from], to, f.bytes, ZMG_LINK_SIZE);
-    MUST(f.length <= ZMG_LINK_SIZE);
-    MUST(f.length == 0 || to != zmg_link_me(&links[from]));
+    MUST(zmg_link_datagram(links[from], to, f.bytes, ZMG_DATAGRAM_SIZE - 1) == 0);
+    f.length = zmg_link_datagram(links[from], to, f.bytes, ZMG_DATAGRAM_SIZE);
+    MUST(f.length <= ZMG_DATAGRAM_SIZE);
+    MUST(f.length == 0 || to != state_of(links[from]).me);
     if (f.length == 0) return;
     f.from = (uint8_t)from;
     f.to = to;
@@ -159,14 +162,14 @@ static void give(unsigned from, uint8_t to) {
 
 /* At no tick of four in a row a link rests for a player. */
 static void rest(uint8_t me, uint8_t to) {
-    rested[me][to] = zmg_link_is_resting(&links[me], to) ? rested[me][to] + 1 : 0;
+    rested[me][to] = seen_by(links[me], to).is_resting ? rested[me][to] + 1 : 0;
     MUST(rested[me][to] < 4);
     rests += rested[me][to] > 0;
 }
 
 static void give_all(uint8_t me) {
     for (uint8_t to = 0; to < NODES + 1; to++)
-        if (!zmg_link_is_resting(&links[me], to)) give(me, to);
+        if (!seen_by(links[me], to).is_resting) give(me, to);
 }
 
 static void give_strange(void) {
@@ -179,46 +182,40 @@ static void give_strange(void) {
 
 static void run_all(uint8_t me) {
     player *p = &all[me];
-    for (uint8_t k = 0; k < players; k++) tells_end(&common, k, zmg_link_end(&links[me], k));
+    for (uint8_t k = 0; k < players; k++) tells_end(&common, k, seen_by(links[me], k).end);
     for (;;) {
-        zmg_move row[4];
-        zmg_ran ran = run_link(&links[me], p->world, row);
-        MUST(ran.code != ZMG_RUN_INCONSISTENT);
-        if (ran.code != ZMG_RUN_RAN) return;
-        runs_row(&common, players, ran.tic, row);
-        p->world = stepped(p->world, row);
+        zmg_row row;
+        zmg_run ran = run_node(links[me], p->world, &row);
+        MUST(ran != ZMG_RUN_INCONSISTENT);
+        if (ran != ZMG_RUN_RAN) return;
+        runs_row(&common, players, &row);
+        p->world = stepped(p->world, &row);
         p->last_run = now;
     }
 }
 
 static void run_and_catch_up(uint8_t me) {
     run_all(me);
-    if (zmg_link_catch_up(&links[me]).code != ZMG_BUILD_MADE) return;
-    MUST(zmg_link_catch_up(&links[me]).code != ZMG_BUILD_MADE);
-    MUST(zmg_link_made(&links[me]) <= all[me].turns);
+    if (zmg_link_catch_up(links[me]) != ZMG_OK) return;
+    MUST(zmg_link_catch_up(links[me]) != ZMG_OK);
+    MUST(state_of(links[me]).made <= all[me].turns);
     caught_up++;
     give_all(me);
     run_all(me);
 }
 
 static void build(uint8_t me) {
-    uint32_t can = zmg_link_can_build(&links[me]);
-    zmg_made made;
-    if (below(2)) {
-        zmg_command c = { (int16_t)draw(), 0, (int8_t)below(100), (int8_t)below(80), (uint8_t)draw(), 1 };
-        made = zmg_link_give(&links[me], &c);
-    } else {
-        made = zmg_link_build(&links[me], draw());
-    }
-    MUST((made.code == ZMG_BUILD_MADE) == can);
-    MUST(zmg_link_made(&links[me]) <= ++all[me].turns);
+    uint32_t can = state_of(links[me]).can_give;
+    zmg_command c = { (int16_t)draw(), (int8_t)below(100), (int8_t)below(80), (uint8_t)draw(), 1 };
+    if (below(2)) zmg_command_from_keys(&all[me].hold, draw(), &c);
+    MUST((zmg_node_give(links[me], &c) == ZMG_OK) == can);
+    MUST(state_of(links[me]).made <= ++all[me].turns);
 }
 
 static void tick(uint8_t me) {
-    int32_t lean;
+    int32_t later;
     build(me);
-    lean = zmg_link_lean(&links[me]);
-    MUST(-9 <= lean && lean <= 41);
+    MUST(zmg_link_tick(links[me], &later) == ZMG_OK && -9 <= later && later <= 41);
     for (uint8_t to = 0; to < NODES; to++) rest(me, to);
     give_all(me);
     run_and_catch_up(me);
@@ -227,7 +224,7 @@ static void tick(uint8_t me) {
 
 static void second(uint8_t me) {
     for (uint8_t to = 0; to < NODES; to++)
-        if (zmg_link_wants_second(&links[me], to)) {
+        if (seen_by(links[me], to).wants_second) {
             seconds++;
             give(me, to);
         }
@@ -235,45 +232,42 @@ static void second(uint8_t me) {
 
 /* What a link tells of itself. */
 typedef struct told {
-    uint32_t phase, made, ran, got[4], end[4], may_leave;
+    zmg_node_state state;
+    zmg_node_player players[4];
 } told;
 
 static told tell(uint8_t me) {
     told t;
     memset(&t, 0, sizeof t);
-    t.phase = zmg_link_phase(&links[me]).code;
-    t.made = zmg_link_made(&links[me]);
-    t.ran = zmg_link_ran(&links[me]);
-    t.may_leave = zmg_link_may_leave(&links[me]);
-    for (uint8_t p = 0; p < 4; p++) {
-        t.got[p] = zmg_link_got(&links[me], p).value;
-        t.end[p] = zmg_link_end(&links[me], p).known;
-    }
+    MUST(zmg_node_state_get(links[me], &t.state, sizeof t.state) == ZMG_OK);
+    for (uint8_t p = 0; p < 4; p++)
+        MUST(zmg_node_player_get(links[me], p, &t.players[p], sizeof t.players[p]) == ZMG_OK);
     return t;
 }
 
 /* What no player of the game gave to this one opens nothing and changes nothing, but is counted. */
 static void hear_other(const flight *f) {
     told before = tell(f->to), after;
-    uint32_t refused = zmg_link_refused(&links[f->to]);
-    zmg_received r = zmg_link_receive(&links[f->to], f->bytes, f->length);
+    zmg_received r;
+    MUST(zmg_link_receive(links[f->to], f->bytes, f->length, &r) == r.code);
     if (f->changed) {
-        MUST(r.code == ZMG_LINK_RECEIVE_UNOPENED && r.reason < 16);
+        MUST(r.code == ZMG_RECEIVED_UNOPENED && r.reason < 16);
         unopened[r.reason]++;
     } else {
-        MUST(r.code == ZMG_LINK_RECEIVE_STRANGER && r.player == NODES - 1);
+        MUST(r.code == ZMG_RECEIVED_STRANGER && r.player == NODES - 1);
         strangers++;
     }
     after = tell(f->to);
+    before.state.refused += f->changed;
     MUST(memcmp(&before, &after, sizeof before) == 0);
-    MUST(zmg_link_refused(&links[f->to]) == refused + f->changed);
 }
 
 /* Where the sender of what was heard has left, the cause is its own. */
 static void look_at_sender(const flight *f) {
-    zmg_number left = zmg_link_left(&links[f->to], f->from);
-    zmg_phase phase = zmg_link_phase(&links[f->from]);
-    if (left.known && all[f->from].is != GONE) MUST(phase.code == ZMG_PHASE_ENDED && phase.cause == left.value);
+    zmg_cause left = seen_by(links[f->to], f->from).left;
+    if (left == ZMG_CAUSE_NONE || all[f->from].is == GONE) return;
+    zmg_node_state sender = state_of(links[f->from]);
+    MUST(sender.phase == ZMG_PHASE_ENDED && sender.cause == left);
 }
 
 static void hear(const flight *f) {
@@ -282,8 +276,7 @@ static void hear(const flight *f) {
         hear_other(f);
         return;
     }
-    r = zmg_link_receive(&links[f->to], f->bytes, f->length);
-    MUST(r.code == ZMG_LINK_RECEIVE_HEARD && r.player == f->from);
+    MUST(zmg_link_receive(links[f->to], f->bytes, f->length, &r) == ZMG_RECEIVED_HEARD && r.player == f->from);
     heard++;
     look_at_sender(f);
     run_and_catch_up(f->to);
@@ -306,7 +299,7 @@ static void arrive(void) {
 /* ---- A player's coming and going ---- */
 
 static void come(uint8_t me) {
-    make(me, me, players, secret, number);
+    make(me, me, players, &secret, &number);
     memset(rested[me], 0, sizeof rested[me]);
     all[me].is = HERE;
     all[me].stopped = 0;
@@ -315,10 +308,10 @@ static void come(uint8_t me) {
 
 static void quit(uint8_t me) {
     player *p = &all[me];
-    int ended = zmg_link_phase(&links[me]).code == ZMG_PHASE_ENDED;
+    int ended = state_of(links[me]).phase == ZMG_PHASE_ENDED;
     full += (unsigned)ended;
-    MUST(zmg_link_quit(&links[me]) == !ended);
-    MUST(zmg_link_quit(&links[me]) == 0);
+    MUST(zmg_node_quit(links[me]) == (ended ? ZMG_ERR_NOT_NOW : ZMG_OK));
+    MUST(zmg_node_quit(links[me]) == ZMG_ERR_NOT_NOW);
     p->is = LEAVING;
     p->may_leave = 0;
     p->quit_at = now;
@@ -328,35 +321,37 @@ static void quit(uint8_t me) {
 static void look_for_leave(uint8_t me) {
     player *p = &all[me];
     int was = p->may_leave;
-    p->may_leave = zmg_link_may_leave(&links[me]) != 0;
+    zmg_node_state s = state_of(links[me]);
+    p->may_leave = s.may_leave != 0;
     MUST(p->may_leave || !was || p->is == HERE);
     if (p->may_leave && !was) p->left_at = now;
     if (!p->may_leave) return;
-    early += zmg_link_made(&links[me]) == 0;
-    MUST(zmg_link_unacknowledged(&links[me]) == 0);
+    early += s.made == 0;
+    MUST(s.unacknowledged == 0);
     for (uint8_t k = 0; k < players; k++)
         if (k != me && (all[k].is == ABSENT || all[k].is == HERE)) {
-            MUST(p->is == LEAVING && zmg_link_end(&links[k], me).known);
-            MUST(zmg_link_got(&links[k], me).value == zmg_link_made(&links[me]));
+            MUST(p->is == LEAVING && all[k].is == HERE && seen_by(links[k], me).end != ZMG_NO_END);
+            MUST(seen_by(links[k], me).got == s.made);
         }
 }
 
 static void look_at_demo(uint8_t me) {
     static uint8_t demo[MOST_DEMO];
-    size_t length = zmg_link_demo(&links[me], 0, demo, sizeof demo);
-    MUST(length == zmg_link_demo_length(&links[me]));
-    tells_demo(&common, players, zmg_link_ran(&links[me]), 1, demo, length);
+    size_t length = zmg_node_demo(links[me], 0, demo, sizeof demo);
+    MUST(length == state_of(links[me]).demo_length);
+    tells_demo(&common, players, state_of(links[me]).ran, 1, demo, length);
 }
 
 static void go(uint8_t me) {
     look_at_demo(me);
-    zmg_link_free(&links[me]);
+    zmg_node_free(links[me]);
+    links[me] = NULL;
     all[me].is = GONE;
 }
 
 /* It ends by itself where its demo is full. */
 static int wants_to_quit(uint8_t me) {
-    return now >= all[me].quits || zmg_link_phase(&links[me]).code == ZMG_PHASE_ENDED;
+    return now >= all[me].quits || state_of(links[me]).phase == ZMG_PHASE_ENDED;
 }
 
 static void live(uint8_t me) {
@@ -398,7 +393,10 @@ static void turn(void) {
 static void game(void) {
     open_game();
     while (!is_over()) turn();
-    for (unsigned k = NODES; k < LINKS; k++) zmg_link_free(&links[k]);
+    for (unsigned k = NODES; k < LINKS; k++) {
+        zmg_node_free(links[k]);
+        links[k] = NULL;
+    }
     games++;
 }
 
@@ -413,7 +411,8 @@ int main(int argc, char **argv) {
     printf("\n");
     if (games < 100) return 0;
     /* in so many games all of it comes */
-    MUST(unopened[ZMG_BUNDLE_TAG] > 0 && unopened[ZMG_BUNDLE_RECEIVER] > 0 && unopened[ZMG_BUNDLE_GAME] > 0);
+    MUST(unopened[ZMG_UNOPENED_TAG] > 0 && unopened[ZMG_UNOPENED_RECEIVER] > 0);
+    MUST(unopened[ZMG_UNOPENED_GAME] > 0);
     MUST(strangers > 0 && full > 0 && caught_up > 0 && seconds > 0 && rests > 0 && alone > 0);
     MUST(early > 0 && carried > 0);
     return 0;

@@ -1,6 +1,6 @@
-/* Sessions of two to four players in one process, in virtual time, over a line that loses, repeats and delays: their
- * lobby, games, chat, and how they end; and what misuse and refused memory are answered with. C99 and C++.
- * sessions GAMES SEED. Ends with status 0, or names the line that failed. */
+/* Sessions of two to four players in one process, in virtual time, over a line that loses, repeats and delays:
+ * their lobby, games, chat, and how they end; and what misuse and refused memory are answered with. C99 and
+ * C++. sessions GAMES SEED. Ends with status 0, or names the line that failed. */
 #include "chance.h"
 #include "failing.h"
 #include "must.h"
@@ -14,11 +14,11 @@ enum { FLIGHTS = 4096, EVENTS = 64 };
 typedef struct {
     uint32_t at, to, length;
     zmg_address from;
-    uint8_t bytes[ZMG_SESSION_SIZE];
+    uint8_t bytes[ZMG_DATAGRAM_SIZE];
 } flight;
 
 typedef struct {
-    zmg_session session;
+    zmg_session *session;
     int alive, plays, no_memory;
     uint32_t world, tics, letters;
     zmg_event events[EVENTS];
@@ -42,9 +42,9 @@ static zmg_address address_of(unsigned who) {
 
 static void send_from(unsigned who) {
     zmg_address to;
-    uint8_t bytes[ZMG_SESSION_SIZE];
+    uint8_t bytes[ZMG_DATAGRAM_SIZE];
     size_t n;
-    while ((n = zmg_session_transmit(&them[who].session, &to, bytes, sizeof bytes)) > 0) {
+    while ((n = zmg_session_transmit(them[who].session, &to, bytes, sizeof bytes)) > 0) {
         unsigned copies = below(100) < loss ? 0 : below(100) < 5 ? 2 : 1;
         MUST(n <= sizeof bytes && to.bytes[0] >= 1 && to.bytes[0] <= 5);
         while (copies-- && flying < FLIGHTS) {
@@ -68,14 +68,14 @@ static void hear_all(void) {
         }
         flights[k] = flights[--flying];
         if (!them[f.to].alive) continue;
-        zmg_session_receive(&them[f.to].session, &f.from, f.bytes, f.length, now);
+        zmg_session_receive(them[f.to].session, &f.from, f.bytes, f.length, now);
         send_from(f.to);
     }
 }
 
 static void see_events(player *p) {
     zmg_event e;
-    while ((e = zmg_session_event(&p->session)).kind != ZMG_EVENT_NONE) {
+    while (zmg_session_event(p->session, &e) != ZMG_EVENT_NONE) {
         MUST(p->told < EVENTS);
         p->events[p->told++] = e;
         if (e.kind == ZMG_EVENT_BEGAN) p->plays = 1;
@@ -90,42 +90,40 @@ static unsigned count(const player *p, zmg_event_kind kind) {
 
 static zmg_state state_of(unsigned who) {
     zmg_state s;
-    zmg_session_state(&them[who].session, &s);
+    MUST(zmg_session_state(them[who].session, &s, sizeof s) == ZMG_OK);
     return s;
 }
 
 static zmg_player seen(unsigned who, unsigned of) {
     zmg_player s;
-    zmg_session_player(&them[who].session, (uint8_t)of, now, &s);
+    MUST(zmg_session_player(them[who].session, (uint8_t)of, now, &s, sizeof s) == ZMG_OK);
     return s;
 }
 
 static void give_all(unsigned who) {
     zmg_command c;
-    while (zmg_session_wants_input(&them[who].session, now)) {
+    while (zmg_session_wants_input(them[who].session, now)) {
         memset(&c, 0, sizeof c);
         c.turn = (int16_t)draw();
         c.forward = (int8_t)below(50);
         c.chat = (uint8_t)(1 + below(200));
-        MUST(zmg_session_give(&them[who].session, &c, now) == 1);
+        MUST(zmg_session_give(them[who].session, &c, now) == ZMG_OK);
     }
 }
 
 static void run_all(unsigned who) {
     player *p = &them[who];
     for (;;) {
-        zmg_known_command row[4];
+        zmg_row row;
         int16_t marks[4];
-        zmg_ran ran;
         unsigned k;
         for (k = 0; k < 4; k++) marks[k] = (int16_t)p->world;
-        ran = zmg_session_run(&p->session, marks, row);
-        if (ran.code != ZMG_TIC_RAN) return;
-        MUST(ran.tic == p->tics);
+        if (zmg_session_run(p->session, marks, &row) != ZMG_RUN_RAN) return;
+        MUST(row.tic == p->tics);
         p->tics++;
         for (k = 0; k < 4; k++) {
-            p->world = p->world * 31 + (uint16_t)row[k].command.turn + row[k].command.chat + row[k].known;
-            p->letters += row[k].command.chat != 0;
+            p->world = p->world * 31 + (uint16_t)row.commands[k].turn + row.commands[k].chat + row.present[k];
+            p->letters += row.commands[k].chat != 0;
         }
     }
 }
@@ -137,7 +135,7 @@ static void pass(uint32_t milliseconds, unsigned players) {
         hear_all();
         for (k = 0; k < players; k++) {
             if (!them[k].alive) continue;
-            them[k].no_memory = zmg_session_poll(&them[k].session, now) == ZMG_STATUS_NO_MEMORY;
+            them[k].no_memory = zmg_session_poll(them[k].session, now) == ZMG_ERR_MEMORY;
             give_all(k);
             see_events(&them[k]);
             send_from(k);
@@ -153,9 +151,9 @@ static zmg_host_config host_config(unsigned players) {
     c.terms.players = (uint8_t)players;
     c.terms.limit = 1 << 20;
     c.terms.own[0] = 77;
-    c.key[0] = 9;
-    fill(c.random, sizeof c.random);
-    memcpy(c.name, "host", 4);
+    c.key.bytes[0] = 9;
+    fill(c.random.bytes, sizeof c.random.bytes);
+    memcpy(c.name.text, "host", 4);
     return c;
 }
 
@@ -163,16 +161,16 @@ static zmg_join_config join_config(unsigned who) {
     zmg_join_config c;
     zmg_join_config_init(&c);
     c.host = address_of(0);
-    c.key[0] = 9;
-    fill(c.random, sizeof c.random);
-    c.name[0] = (uint8_t)('a' + who);
+    c.key.bytes[0] = 9;
+    fill(c.random.bytes, sizeof c.random.bytes);
+    c.name.text[0] = (char)('a' + who);
     return c;
 }
 
 static void clear(const char *name) {
     unsigned k;
     for (k = 0; k < 5; k++) {
-        zmg_session_free(&them[k].session);
+        zmg_session_free(them[k].session);
         memset(&them[k], 0, sizeof them[k]);
     }
     flying = 0;
@@ -181,12 +179,12 @@ static void clear(const char *name) {
 }
 
 static void join(unsigned who, const zmg_join_config *c) {
-    MUST(zmg_session_join(&them[who].session, c, now) == ZMG_STATUS_OK);
+    MUST(zmg_session_join(&them[who].session, c, now) == ZMG_OK);
     them[who].alive = 1;
 }
 
 static void host(const zmg_host_config *c) {
-    MUST(zmg_session_host(&them[0].session, c) == ZMG_STATUS_OK);
+    MUST(zmg_session_host(&them[0].session, c) == ZMG_OK);
     them[0].alive = 1;
 }
 
@@ -225,8 +223,8 @@ static void agree(unsigned players) {
         uint8_t one[4096], other[4096];
         size_t n, m;
         if (!them[k].alive) continue;
-        n = zmg_session_demo(&them[first].session, 0, one, sizeof one);
-        m = zmg_session_demo(&them[k].session, 0, other, sizeof other);
+        n = zmg_session_demo(them[first].session, 0, one, sizeof one);
+        m = zmg_session_demo(them[k].session, 0, other, sizeof other);
         if (m < n) n = m;
         /* the header has the player whose view it shows; the last bytes may be an end marker */
         MUST(n > 500 && memcmp(one, other, 8) == 0 && memcmp(one + 9, other + 9, n - 200) == 0);
@@ -237,17 +235,17 @@ static void leave_all(unsigned players) {
     unsigned k, other;
     for (k = players; k-- > 0;) {
         if (!them[k].alive) continue;
-        zmg_session_quit(&them[k].session, now);
-        MUST(state_of(k).stage == ZMG_STAGE_LEAVING && state_of(k).why.reason == ZMG_OVER_LEFT);
+        zmg_session_quit(them[k].session, now);
+        MUST(state_of(k).stage == ZMG_STAGE_LEAVING && state_of(k).why == ZMG_OVER_LEFT);
         pass(4000, players);
         for (other = 0; other < k; other++)
-            if (them[other].alive && them[other].plays) MUST(seen(other, k).game.standing == ZMG_STANDING_LEFT);
+            if (them[other].alive && them[other].plays) MUST(seen(other, k).standing == ZMG_STANDING_LEFT);
     }
     pass(12000, players);
     for (k = 0; k < players; k++) {
         if (!them[k].alive) continue;
         MUST(state_of(k).stage == ZMG_STAGE_OVER && count(&them[k], ZMG_EVENT_OVER) == 1);
-        MUST(them[k].events[them[k].told - 1].over.reason == ZMG_OVER_LEFT);
+        MUST(them[k].events[them[k].told - 1].why == ZMG_OVER_LEFT);
     }
 }
 
@@ -257,23 +255,24 @@ static void play(unsigned players) {
     for (k = 0; k < players; k++) {
         zmg_state s = state_of(k);
         MUST(s.stage == ZMG_STAGE_PLAYING && s.me == k && s.terms.players == players && s.terms.own[0] == 77);
-        MUST(s.terms.policy == ZMG_POLICY_WAIT && s.terms.settings.map == 1 && s.why.reason == ZMG_OVER_NOT);
+        MUST(s.terms.policy == ZMG_POLICY_WAIT && s.terms.settings.map == 1 && s.why == ZMG_OK);
         MUST(count(&them[k], ZMG_EVENT_SEATED) == (k > 0) && count(&them[k], ZMG_EVENT_BEGAN) == 1);
         for (other = 1; other < players; other++) {
-            zmg_seat seat = seen(k, other).seat;
-            MUST(seat.known && seat.address.bytes[0] == other + 1 && seat.name[0] == 'a' + other);
+            zmg_player seat = seen(k, other);
+            MUST(seat.has_address && seat.address.bytes[0] == other + 1);
+            MUST(seat.name.text[0] == (char)('a' + other));
         }
-        if (k) MUST(memcmp(seen(k, 0).seat.name, "host", 5) == 0);
-        MUST(seen(k, players).seat.state == ZMG_SEAT_NONE && seen(k, players).game.standing == ZMG_STANDING_NONE);
-        zmg_session_kick(&them[k].session, 1);
+        if (k) MUST(memcmp(seen(k, 0).name.text, "host", 5) == 0);
+        MUST(seen(k, players).seat == ZMG_SEAT_NONE && seen(k, players).standing == ZMG_STANDING_NONE);
+        zmg_session_kick(them[k].session, 1);
     }
     agree(players);
     for (k = 0; k < players; k++) {
         zmg_state s = state_of(k);
         zmg_player one = seen(k, k ? 0 : 1);
-        MUST(s.game.made > 60 && s.game.ran == them[k].tics && them[k].letters >= them[k].tics * (players - 1));
-        MUST(one.game.standing == ZMG_STANDING_PLAYS && one.game.line.known && one.game.line.came > 60);
-        MUST(one.game.got.known && one.game.got.value >= s.game.ran && !one.game.end.known);
+        MUST(s.made > 60 && s.ran == them[k].tics && them[k].letters >= them[k].tics * (players - 1));
+        MUST(one.standing == ZMG_STANDING_PLAYS && one.line.came > 60);
+        MUST(one.got >= s.ran && one.end == ZMG_NO_END);
     }
     leave_all(players);
 }
@@ -284,57 +283,57 @@ static void vanish(void) {
     them[1].alive = 0;
     pass(8000, 3);
     MUST(count(&them[0], ZMG_EVENT_GIVEN_UP) == 1 && count(&them[2], ZMG_EVENT_GIVEN_UP) == 1);
-    MUST(seen(0, 1).game.standing == ZMG_STANDING_GIVEN_UP && seen(2, 1).game.standing == ZMG_STANDING_GIVEN_UP);
+    MUST(seen(0, 1).standing == ZMG_STANDING_GIVEN_UP && seen(2, 1).standing == ZMG_STANDING_GIVEN_UP);
     agree(3);
     /* who comes back is told so */
     them[1].alive = 1;
     pass(4000, 3);
-    MUST(state_of(1).stage == ZMG_STAGE_OVER && state_of(1).why.reason == ZMG_OVER_GIVEN_UP);
+    MUST(state_of(1).stage == ZMG_STAGE_OVER && state_of(1).why == ZMG_OVER_GIVEN_UP);
     them[1].alive = 0;
     leave_all(3);
 
     begin("a game that waits", 3, ZMG_POLICY_WAIT);
     agree(3);
     them[2].alive = 0;
-    MUST(zmg_session_give_up(&them[0].session, 2, now) == 0);
+    MUST(zmg_session_give_up(them[0].session, 2, now) == ZMG_ERR_NOT_NOW);
     pass(6000, 3);
-    MUST(seen(0, 2).game.awaited >= 3000 && seen(0, 2).game.silent >= 3000 && seen(0, 1).game.awaited == 0);
-    MUST(zmg_session_give_up(&them[1].session, 2, now) == 0);
-    MUST(zmg_session_give_up(&them[0].session, 2, now) == 1);
+    MUST(seen(0, 2).awaited >= 3000 && seen(0, 2).silent >= 3000 && seen(0, 1).awaited == 0);
+    MUST(zmg_session_give_up(them[1].session, 2, now) == ZMG_ERR_NOT_NOW);
+    MUST(zmg_session_give_up(them[0].session, 2, now) == ZMG_OK);
     pass(1000, 3);
     agree(3);
-    MUST(seen(1, 2).game.standing == ZMG_STANDING_GIVEN_UP);
+    MUST(seen(1, 2).standing == ZMG_STANDING_GIVEN_UP);
 
     begin("a game that ends", 2, ZMG_POLICY_END);
     agree(2);
     them[1].alive = 0;
     pass(20000, 2);
-    MUST(state_of(0).stage == ZMG_STAGE_OVER && state_of(0).why.reason == ZMG_OVER_LOST && state_of(0).why.number == 1);
+    MUST(state_of(0).stage == ZMG_STAGE_OVER && state_of(0).why == ZMG_OVER_LOST && state_of(0).number == 1);
 }
 
 /* A joiner of another kind is refused with this. */
-static void refused(const char *name, zmg_join_config j, zmg_reason reason, uint32_t number) {
+static void refused(const char *name, zmg_join_config j, zmg_status reason, uint32_t number) {
     zmg_host_config h;
     clear(name);
     h = host_config(3);
     host(&h);
     join(1, &j);
     pass(20000, 2);
-    MUST(state_of(1).stage == ZMG_STAGE_OVER && state_of(1).why.reason == reason && state_of(1).why.number == number);
-    MUST(them[1].events[them[1].told - 1].over.reason == reason && *zmg_reason_text(reason));
+    MUST(state_of(1).stage == ZMG_STAGE_OVER && state_of(1).why == reason && state_of(1).number == number);
+    MUST(them[1].events[them[1].told - 1].why == reason && *zmg_status_text(reason));
     MUST(state_of(0).stage == ZMG_STAGE_HOSTING);
 }
 
 static void lobby(void) {
     zmg_host_config h;
     zmg_join_config j = join_config(1);
-    j.identity[3] = 1;
+    j.identity.bytes[3] = 1;
     refused("a lobby: another identity", j, ZMG_OVER_IDENTITY, 0);
     j = join_config(1);
     j.players = 4;
     refused("a lobby: another number of players", j, ZMG_OVER_PLAYERS, 3);
     j = join_config(1);
-    j.key[1] = 1;
+    j.key.bytes[1] = 1;
     refused("a lobby: another key", j, ZMG_OVER_OTHER_KEY, 0);
     j = join_config(1);
     j.keyless = 1;
@@ -346,24 +345,25 @@ static void lobby(void) {
     j = join_config(1);
     join(1, &j);
     pass(3000, 2);
-    MUST(state_of(1).stage == ZMG_STAGE_SEATED && state_of(1).me == 1 && seen(0, 1).seat.state == ZMG_SEAT_THERE);
-    MUST(seen(0, 2).seat.state == ZMG_SEAT_FREE && seen(0, 3).seat.state == ZMG_SEAT_NONE);
-    MUST(seen(1, 2).seat.state == ZMG_SEAT_FREE && seen(1, 0).seat.state == ZMG_SEAT_THERE);
-    MUST(zmg_session_due(&them[1].session).known == 1 && zmg_session_due(&them[0].session).known == 0);
-    zmg_session_kick(&them[0].session, 2);
-    zmg_session_kick(&them[0].session, 200);
-    zmg_session_kick(&them[0].session, 1);
+    MUST(state_of(1).stage == ZMG_STAGE_SEATED && state_of(1).me == 1 && seen(0, 1).seat == ZMG_SEAT_THERE);
+    MUST(seen(0, 2).seat == ZMG_SEAT_FREE && seen(0, 3).seat == ZMG_SEAT_NONE);
+    MUST(seen(1, 2).seat == ZMG_SEAT_FREE && seen(1, 0).seat == ZMG_SEAT_THERE);
+    MUST(zmg_session_wait(them[1].session, now) < 10000);
+    MUST(zmg_session_wait(them[0].session, now) == ZMG_WAIT_NONE);
+    zmg_session_kick(them[0].session, 2);
+    zmg_session_kick(them[0].session, 200);
+    zmg_session_kick(them[0].session, 1);
     /* it learns so by an answer to one of its calls, which may be lost */
     pass(6000, 2);
-    MUST(state_of(1).why.reason == ZMG_OVER_KICKED && seen(0, 1).seat.state == ZMG_SEAT_FREE);
+    MUST(state_of(1).why == ZMG_OVER_KICKED && seen(0, 1).seat == ZMG_SEAT_FREE);
     /* another takes the seat, and is silent, and a third takes it over */
     j = join_config(2);
     join(2, &j);
     pass(3000, 3);
-    MUST(seen(0, 1).seat.state == ZMG_SEAT_THERE);
+    MUST(seen(0, 1).seat == ZMG_SEAT_THERE);
     them[2].alive = 0;
     pass(4000, 3);
-    MUST(seen(0, 1).seat.state == ZMG_SEAT_SILENT && state_of(0).stage == ZMG_STAGE_HOSTING);
+    MUST(seen(0, 1).seat == ZMG_SEAT_SILENT && state_of(0).stage == ZMG_STAGE_HOSTING);
 }
 
 /* The first game without memory begins once there is some. */
@@ -373,9 +373,9 @@ static void memory(void) {
     clear("refused memory");
     MUST(blocks_held() == 0);
     fail_every(1);
-    MUST(zmg_session_host(&them[0].session, &h) == ZMG_STATUS_NO_MEMORY);
-    MUST(zmg_session_join(&them[1].session, &j, now) == ZMG_STATUS_NO_MEMORY);
-    MUST(state_of(0).stage == ZMG_STAGE_NONE && state_of(1).stage == ZMG_STAGE_NONE);
+    MUST(zmg_session_host(&them[0].session, &h) == ZMG_ERR_MEMORY);
+    MUST(zmg_session_join(&them[1].session, &j, now) == ZMG_ERR_MEMORY);
+    MUST(them[0].session == NULL && them[1].session == NULL);
     fail_every(0);
     host(&h);
     join(1, &j);
@@ -393,87 +393,93 @@ static void memory(void) {
 static void faults(void) {
     zmg_host_config h = host_config(2), bad;
     zmg_join_config j = join_config(1), wrong;
-    zmg_session s = ZMG_SESSION_NONE;
+    zmg_session *s = NULL;
     clear("faults of a config");
 #define HOST(field, value, status) \
     do { \
         bad = h; \
         bad.field = value; \
-        MUST(zmg_session_host(&s, &bad) == status && s.live == 0 && strcmp(zmg_status_text(status), "unknown")); \
+        MUST(zmg_session_host(&s, &bad) == status && s == NULL && strcmp(zmg_status_text(status), "unknown")); \
     } while (0)
-    HOST(key[0], 0, ZMG_STATUS_BAD_KEY);
-    HOST(terms.players, 1, ZMG_STATUS_BAD_PLAYERS);
-    HOST(terms.players, 5, ZMG_STATUS_BAD_PLAYERS);
-    HOST(terms.window, 13, ZMG_STATUS_BAD_WINDOW);
-    HOST(terms.rate, 36, ZMG_STATUS_BAD_RATE);
-    HOST(terms.limit, 1023, ZMG_STATUS_BAD_LIMIT);
-    HOST(terms.policy, (zmg_policy)0, ZMG_STATUS_BAD_POLICY);
-    HOST(terms.policy, ZMG_POLICY_END, ZMG_STATUS_BAD_POLICY);
-    HOST(terms.policy, ZMG_POLICY_GIVE_UP, ZMG_STATUS_BAD_POLICY);
-    HOST(terms.settings.skill, 5, ZMG_STATUS_BAD_SKILL);
-    HOST(terms.settings.deathmatch, 3, ZMG_STATUS_BAD_DEATHMATCH);
-    HOST(terms.settings.episode, 4, ZMG_STATUS_BAD_EPISODE);
-    HOST(terms.settings.map, 33, ZMG_STATUS_BAD_MAP);
+    HOST(size, sizeof bad - 8, ZMG_ERR_SIZE);
+    HOST(size, sizeof bad + 8, ZMG_ERR_SIZE);
+    HOST(size, 0, ZMG_ERR_SIZE);
+    HOST(key.bytes[0], 0, ZMG_ERR_KEY);
+    HOST(terms.players, 1, ZMG_ERR_PLAYERS);
+    HOST(terms.players, 5, ZMG_ERR_PLAYERS);
+    HOST(terms.window, 13, ZMG_ERR_WINDOW);
+    HOST(terms.rate, 36, ZMG_ERR_RATE);
+    HOST(terms.limit, 1023, ZMG_ERR_LIMIT);
+    HOST(terms.policy, (zmg_policy)0, ZMG_ERR_POLICY);
+    HOST(terms.policy, ZMG_POLICY_END, ZMG_ERR_POLICY);
+    HOST(terms.policy, ZMG_POLICY_GIVE_UP, ZMG_ERR_POLICY);
+    HOST(terms.settings.skill, 5, ZMG_ERR_SKILL);
+    HOST(terms.settings.deathmatch, 3, ZMG_ERR_DEATHMATCH);
+    HOST(terms.settings.episode, 4, ZMG_ERR_EPISODE);
+    HOST(terms.settings.map, 33, ZMG_ERR_MAP);
     bad = h;
-    memset(bad.random, 0, sizeof bad.random);
-    MUST(zmg_session_host(&s, &bad) == ZMG_STATUS_BAD_RANDOM);
+    memset(&bad.random, 0, sizeof bad.random);
+    MUST(zmg_session_host(&s, &bad) == ZMG_ERR_RANDOM);
     bad = h;
-    bad.key[0] = 0;
+    bad.key.bytes[0] = 0;
     bad.keyless = 1;
-    MUST(zmg_session_host(&s, &bad) == ZMG_STATUS_OK && s.live == 1);
+    MUST(zmg_session_host(&s, &bad) == ZMG_OK && s != NULL);
+    zmg_session_free(s);
     wrong = j;
     wrong.seat = 4;
-    MUST(zmg_session_join(&s, &wrong, 0) == ZMG_STATUS_BAD_SEAT && s.live == 0);
+    MUST(zmg_session_join(&s, &wrong, 0) == ZMG_ERR_SEAT && s == NULL);
     wrong = j;
     wrong.players = 5;
-    MUST(zmg_session_join(&s, &wrong, 0) == ZMG_STATUS_BAD_PLAYERS);
-    wrong.key[0] = 0;
-    MUST(zmg_session_join(&s, &wrong, 0) == ZMG_STATUS_BAD_KEY);
-    MUST(zmg_session_join(&s, &j, 0) == ZMG_STATUS_OK && s.live == 1);
-    zmg_session_free(&s);
-    zmg_session_free(&s);
-    MUST(s.live == 0);
+    MUST(zmg_session_join(&s, &wrong, 0) == ZMG_ERR_PLAYERS);
+    wrong.key.bytes[0] = 0;
+    MUST(zmg_session_join(&s, &wrong, 0) == ZMG_ERR_KEY);
+    MUST(zmg_session_join(&s, &j, 0) == ZMG_OK && s != NULL);
+    zmg_session_free(s);
+    wrong = j;
+    wrong.size = sizeof wrong + 8;
+    MUST(zmg_session_join(&s, &wrong, 0) == ZMG_ERR_SIZE && s == NULL);
+    zmg_session_free(NULL);
 }
 
 static void misuse(void) {
-    zmg_session s = ZMG_SESSION_NONE;
+    zmg_session *s = NULL;
     zmg_address to = address_of(7);
-    uint8_t room[ZMG_SESSION_SIZE];
+    uint8_t room[ZMG_DATAGRAM_SIZE];
     zmg_command c;
-    zmg_known_command row[4];
+    zmg_row row;
     int16_t marks[4] = { 0, 0, 0, 0 };
     zmg_state state;
     zmg_player one;
+    zmg_event event;
     zmg_join_config j = join_config(1);
     clear("misuse");
     memset(&c, 0, sizeof c);
-    memset(row, 7, sizeof row);
     memset(room, 7, sizeof room);
-    zmg_session_receive(&s, &to, room, sizeof room, 5);
-    MUST(zmg_session_poll(&s, 5) == ZMG_STATUS_NO_SESSION);
-    MUST(zmg_session_transmit(&s, &to, room, sizeof room) == 0 && to.bytes[0] == 8 && room[0] == 7);
-    MUST(zmg_session_event(&s).kind == ZMG_EVENT_NONE && zmg_session_due(&s).known == 0);
-    MUST(zmg_session_wants_input(&s, 5) == 0 && zmg_session_give(&s, &c, 5) == 0);
-    MUST(zmg_session_run(&s, marks, row).code == ZMG_TIC_NOT_PLAYING && row[0].known == 0x07070707);
-    zmg_session_quit(&s, 5);
-    zmg_session_kick(&s, 1);
-    MUST(zmg_session_give_up(&s, 1, 5) == 0 && zmg_session_demo(&s, 0, room, sizeof room) == 0);
-    zmg_session_state(&s, &state);
-    zmg_session_player(&s, 1, 5, &one);
-    MUST(state.stage == ZMG_STAGE_NONE && state.terms.players == 0 && one.seat.state == ZMG_SEAT_NONE);
-
     /* a joiner calls at once; a room that is too small loses nothing */
-    MUST(zmg_session_join(&s, &j, 5) == ZMG_STATUS_OK && zmg_session_poll(&s, 5) == ZMG_STATUS_OK);
-    MUST(zmg_session_transmit(&s, &to, room, sizeof room - 1) == 0 && to.bytes[0] == 8);
-    MUST(zmg_session_transmit(&s, &to, room, sizeof room) > 0 && to.bytes[0] == 1);
-    MUST(zmg_session_transmit(&s, &to, room, sizeof room) == 0);
-    MUST(zmg_session_run(&s, marks, row).code == ZMG_TIC_NOT_PLAYING && zmg_session_give(&s, &c, 5) == 0);
-    zmg_session_quit(&s, 5);
-    zmg_session_kick(&s, 1);
-    MUST(zmg_session_demo(&s, 0, room, sizeof room) == 0 && zmg_session_give_up(&s, 0, 5) == 0);
-    zmg_session_state(&s, &state);
-    MUST(state.stage == ZMG_STAGE_CALLING);
-    zmg_session_free(&s);
+    MUST(zmg_session_join(&s, &j, 5) == ZMG_OK && zmg_session_poll(s, 5) == ZMG_OK);
+    MUST(zmg_session_transmit(s, &to, room, sizeof room - 1) == 0 && to.bytes[0] == 8 && room[0] == 7);
+    MUST(zmg_session_transmit(s, &to, room, sizeof room) > 0 && to.bytes[0] == 1);
+    MUST(zmg_session_transmit(s, &to, room, sizeof room) == 0);
+    memset(&row, 7, sizeof row);
+    MUST(zmg_session_run(s, marks, &row) == ZMG_RUN_NOT_PLAYING && row.tic == 0 && row.present[3] == 0);
+    MUST(zmg_session_give(s, &c, 5) == ZMG_ERR_NOT_NOW && !zmg_session_wants_input(s, 5));
+    MUST(zmg_session_quit(s, 5) == ZMG_OK && zmg_session_kick(s, 1) == ZMG_OK);
+    MUST(zmg_session_kick(s, 255) == ZMG_OK);
+    MUST(zmg_session_demo(s, 0, room, sizeof room) == 0 && zmg_session_give_up(s, 0, 5) == ZMG_ERR_NOT_NOW);
+    MUST(zmg_session_demo(s, SIZE_MAX, room, sizeof room) == 0);
+    /* structs of other sizes: less is refused, more is filled as far as it is known */
+    memset(&state, 7, sizeof state);
+    MUST(zmg_session_state(s, &state, sizeof state - 1) == ZMG_ERR_SIZE && state.made == 0x07070707);
+    MUST(zmg_session_state(s, &state, 0) == ZMG_ERR_SIZE && state.made == 0x07070707);
+    MUST(zmg_session_state(s, &state, SIZE_MAX) == ZMG_OK);
+    MUST(state.stage == ZMG_STAGE_CALLING && state.made == 0);
+    memset(&one, 7, sizeof one);
+    MUST(zmg_session_player(s, 1, 5, &one, sizeof one - 1) == ZMG_ERR_SIZE && one.got == 0x07070707);
+    MUST(zmg_session_player(s, 255, 5, &one, sizeof one) == ZMG_OK && one.seat == ZMG_SEAT_NONE);
+    MUST(one.standing == ZMG_STANDING_NONE && one.end == ZMG_NO_END && one.got == 0);
+    memset(&event, 7, sizeof event);
+    MUST(zmg_session_event(s, &event) == ZMG_EVENT_NONE && event.player == 0 && event.why == ZMG_OK);
+    zmg_session_free(s);
 }
 
 /* Any bytes, from anywhere, at any time. */
@@ -491,7 +497,7 @@ static void noise(void) {
             memcpy(bytes, f->bytes, n);
             bytes[below((uint32_t)n)] ^= (uint8_t)(1 << below(8));
         }
-        zmg_session_receive(&them[below(2)].session, &from, bytes, n, now);
+        zmg_session_receive(them[below(2)].session, &from, bytes, n, now);
         if (k % 20 == 0) pass(5, 2);
     }
     agree(2);

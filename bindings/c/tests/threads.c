@@ -1,72 +1,72 @@
-/* A game of two whose nodes are made, played and freed on sixty threads, one after another: each round on a
- * thread of its own, to which both nodes go, and from which they come back. Ends with status 0. */
+/* A game of two sessions, which are made, played and freed on sixty threads, one after another: each round on a
+ * thread of its own, to which both go, and from which they come back. Ends with status 0. */
 #include "zirmegat.h"
 #include <pthread.h>
 #include <stdio.h>
 #include <stdlib.h>
 
-#define ROUNDS 60
+enum { ROUNDS = 60, ROUND = 50 };
 
-struct game {
-    zmg_lockstep key, other;
-    int round;
-};
+typedef struct game {
+    zmg_session *players[2];
+    int16_t worlds[2][4];
+    uint32_t now;
+} game;
 
-static void begin(struct game *game) {
-    zmg_config config = { 4096, 2, 0, 0, { 2, 0, 0, 0, 1, 1 } };
-    if (zmg_lockstep_new(&game->key, &config) != ZMG_NEW_OK) exit(1);
-    config.me = 1;
-    if (zmg_lockstep_new(&game->other, &config) != ZMG_NEW_OK) exit(1);
+static void begin(game *g) {
+    zmg_host_config host;
+    zmg_join_config join;
+    zmg_host_config_init(&host);
+    zmg_join_config_init(&join);
+    host.key.bytes[0] = join.key.bytes[0] = host.random.bytes[0] = join.random.bytes[1] = 1;
+    if (zmg_session_host(&g->players[0], &host) != ZMG_OK) exit(1);
+    if (zmg_session_join(&g->players[1], &join, 0) != ZMG_OK) exit(1);
 }
 
-static void hand_over(zmg_lockstep *from, zmg_lockstep *to) {
-    uint8_t bytes[ZMG_PACKET_SIZE];
-    size_t length = zmg_lockstep_packet(from, (uint8_t)zmg_lockstep_me(to), bytes, sizeof bytes);
-    if (length > 0) zmg_lockstep_receive(to, (uint8_t)zmg_lockstep_me(from), bytes, length);
-}
-
-static void run(zmg_lockstep *node) {
-    const int16_t marks[4] = { 0, 0, 0, 0 };
-    zmg_move row[4];
-    while (zmg_lockstep_run(node, marks, row).code == ZMG_RUN_RAN) {}
+static void turn(game *g, int me) {
+    const zmg_command command = { 0, (int8_t)(25 + 25 * me), 0, 0, 0 };
+    zmg_session *own = g->players[me];
+    zmg_address place = { { 0 } }, to;
+    uint8_t bytes[ZMG_DATAGRAM_SIZE];
+    zmg_row row;
+    size_t length;
+    place.bytes[0] = (uint8_t)me;
+    if (zmg_session_poll(own, g->now) != ZMG_OK) exit(1);
+    while (zmg_session_wants_input(own, g->now)) zmg_session_give(own, &command, g->now);
+    while (zmg_session_run(own, g->worlds[me], &row) == ZMG_RUN_RAN)
+        for (int p = 0; p < 4; p++) g->worlds[me][p] = (int16_t)(g->worlds[me][p] + row.commands[p].forward);
+    while ((length = zmg_session_transmit(own, &to, bytes, sizeof bytes)) > 0)
+        zmg_session_receive(g->players[!me], &place, bytes, length, g->now);
 }
 
 static void *play(void *at) {
-    struct game *game = at;
-    if (game->round == 0) begin(game);
-    zmg_lockstep_build(&game->key, ZMG_KEY_FORWARD);
-    zmg_lockstep_build(&game->other, ZMG_KEY_BACK);
-    hand_over(&game->key, &game->other);
-    hand_over(&game->other, &game->key);
-    run(&game->key);
-    run(&game->other);
+    game *g = (game *)at;
+    if (g->now == 0) begin(g);
+    for (int k = 0; k < ROUND; k++, g->now += 5) {
+        turn(g, 0);
+        turn(g, 1);
+    }
     return NULL;
 }
 
 static void *end(void *at) {
-    struct game *game = at;
-    zmg_lockstep_free(&game->key);
-    zmg_lockstep_free(&game->other);
+    game *g = (game *)at;
+    for (int me = 0; me < 2; me++) zmg_session_free(g->players[me]);
     return NULL;
 }
 
-static void on_a_thread(void *(*part)(void *), struct game *game) {
+static void on_a_thread(void *(*part)(void *), game *g) {
     pthread_t thread;
-    if (pthread_create(&thread, NULL, part, game) != 0) exit(1);
+    if (pthread_create(&thread, NULL, part, g) != 0) exit(1);
     if (pthread_join(thread, NULL) != 0) exit(1);
 }
 
 int main(void) {
-    struct game game = { ZMG_LOCKSTEP_NONE, ZMG_LOCKSTEP_NONE, 0 };
-    uint32_t key, other;
-    for (; game.round < ROUNDS; game.round++) on_a_thread(play, &game);
-    /* the first round is that of the set-up */
-    key = zmg_lockstep_ran(&game.key);
-    other = zmg_lockstep_ran(&game.other);
-    on_a_thread(end, &game);
-    if (key != ROUNDS - 1 || other != ROUNDS - 1) {
-        printf("%u and %u tics\n", (unsigned)key, (unsigned)other);
-        return 1;
-    }
-    return 0;
+    static game g;
+    zmg_state states[2];
+    for (int round = 0; round < ROUNDS; round++) on_a_thread(play, &g);
+    for (int me = 0; me < 2; me++) zmg_session_state(g.players[me], &states[me], sizeof states[me]);
+    on_a_thread(end, &g);
+    printf("threads: %u and %u tics\n", (unsigned)states[0].ran, (unsigned)states[1].ran);
+    return states[0].ran > 300 && states[1].ran > 300 ? 0 : 1;
 }

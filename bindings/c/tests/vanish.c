@@ -5,13 +5,12 @@
  * given up that it goes on with. A datagram has a report exactly while its sender has given up somebody and
  * once it has left, if there is room; and once no report is missing, the ends are known. Players neither of
  * whom has given up the other must run the same rows, and of their demos one must be the beginning of the
- * other; of any two at all the moves of a player must be the same wherever both have them; and who remains must
- * play on. C99 and C++. Ends with status 0, or names the line that failed. */
+ * other; of any two at all the commands of a player must be the same wherever both have them; and who remains
+ * must play on. C99 and C++. Ends with status 0, or names the line that failed. */
 #include "chance.h"
 #include "due.h"
 #include "engine.h"
 #include "must.h"
-#include "zirmegat.h"
 #include <stdio.h>
 #include <stdlib.h>
 #include <string.h>
@@ -26,7 +25,9 @@ enum { MOST_ROWS = 2 * LENGTH, MOST_DEMO = 13 + MOST_ROWS * 4 * 5 + 1 };
 /* Of a demo: its head, and where that tells whose view it is. */
 enum { HEAD = 13, VIEW = 9 };
 
-typedef enum plot { CRASH, TWO_CRASH, CRASH_WHILE_DECIDING, LOST_FAREWELL, SLOW, TOO_SLOW, PARTED, EARLY, PLOTS } plot;
+typedef enum plot {
+    CRASH, TWO_CRASH, CRASH_WHILE_DECIDING, LOST_FAREWELL, SLOW, TOO_SLOW, PARTED, EARLY, PLOTS
+} plot;
 
 /* A player: when it crashes, leaves, stands still and wakes, when it last heard each other, how much came from
  * each by then, how many tics it ran and when the last, and its rows. */
@@ -34,12 +35,12 @@ typedef struct player {
     uint32_t crashes, leaves, sleeps, wakes, heard[NODES], came[NODES], ran, last_run;
     uint16_t world;
     uint8_t gone;
-    zmg_move rows[MOST_ROWS][4];
+    zmg_row rows[MOST_ROWS];
 } player;
 
 static uint32_t players, lost, slowest, cut;
 static plot what;
-static zmg_link links[NODES];
+static zmg_node *links[NODES];
 static player all[NODES];
 static unsigned long games, plots[PLOTS], given[8], reports, crowded, decided, apart;
 
@@ -61,9 +62,9 @@ static void carry(const flight *f) {
 
 static void look_for_report(const flight *f) {
     uint32_t size = f->bytes[REPORT] + 256u * f->bytes[REPORT + 1];
-    int is_due = all[f->from].gone || zmg_link_phase(&links[f->from]).code == ZMG_PHASE_ENDED;
+    int is_due = all[f->from].gone || state_of(links[f->from]).phase == ZMG_PHASE_ENDED;
     MUST(size <= MOST_REPORT);
-    if (is_due) MUST(size > 0 || f->length + MOST_REPORT > ZMG_LINK_SIZE);
+    if (is_due) MUST(size > 0 || f->length + MOST_REPORT > ZMG_DATAGRAM_SIZE);
     else MUST(size == 0);
     reports += size > 0;
     crowded += is_due && size == 0;
@@ -73,7 +74,7 @@ static void give(uint8_t from, uint8_t to) {
     flight f;
     f.from = from;
     f.to = to;
-    f.length = zmg_link_datagram(&links[from], to, f.bytes, sizeof f.bytes);
+    f.length = zmg_link_datagram(links[from], to, f.bytes, sizeof f.bytes);
     MUST((f.length == 0) == (from == to || to >= players || (all[from].gone >> to & 1)));
     if (f.length == 0) return;
     look_for_report(&f);
@@ -85,82 +86,86 @@ static void give(uint8_t from, uint8_t to) {
 static void run(uint8_t me) {
     player *p = &all[me];
     for (;;) {
-        zmg_move row[4];
-        zmg_ran ran = run_link(&links[me], p->world, row);
-        MUST(ran.code != ZMG_RUN_INCONSISTENT && ran.code != ZMG_RUN_DEMO_FULL);
-        if (ran.code != ZMG_RUN_RAN) return;
-        MUST(ran.tic == p->ran && ran.tic < MOST_ROWS);
-        memcpy(p->rows[p->ran++], row, sizeof row);
+        zmg_row row;
+        zmg_run ran = run_node(links[me], p->world, &row);
+        MUST(ran != ZMG_RUN_INCONSISTENT && ran != ZMG_RUN_DEMO_FULL);
+        if (ran != ZMG_RUN_RAN) return;
+        MUST(row.tic == p->ran && row.tic < MOST_ROWS);
+        p->rows[p->ran++] = row;
         p->last_run = now;
-        p->world = stepped(p->world, row);
+        p->world = stepped(p->world, &row);
     }
 }
 
 static void give_up(uint8_t me, uint8_t of) {
     zmg_given_up answer;
+    zmg_give_up_code code;
     if (all[me].gone >> of & 1) return;
-    answer = zmg_link_give_up(&links[me], of);
-    MUST(answer.code < 8);
-    given[answer.code]++;
-    MUST(answer.code == ZMG_GIVE_UP_WAITING || answer.code == ZMG_GIVE_UP_DECIDED
-        || answer.code == ZMG_GIVE_UP_NOT_PLAYING);
-    if (answer.code == ZMG_GIVE_UP_NOT_PLAYING) return;
+    code = zmg_link_give_up(links[me], of, &answer);
+    MUST(code == answer.code && code < 8);
+    given[code]++;
+    MUST(code == ZMG_GIVE_UP_WAITING || code == ZMG_GIVE_UP_DECIDED || code == ZMG_GIVE_UP_NOT_PLAYING);
+    if (code == ZMG_GIVE_UP_NOT_PLAYING) return;
     all[me].gone |= (uint8_t)(1u << of);
-    MUST(zmg_link_has_given_up(&links[me], of));
-    MUST(zmg_link_give_up(&links[me], of).code == ZMG_GIVE_UP_ALREADY);
+    MUST(seen_by(links[me], of).given_up);
+    MUST(zmg_link_give_up(links[me], of, &answer) == ZMG_GIVE_UP_ALREADY);
 }
 
 /* A player is silent of whom nothing new comes, and whose end is not known. */
 static void look_for_silence(uint8_t me, uint8_t of) {
     player *p = &all[me];
-    uint32_t came = zmg_link_line(&links[me], of).came;
-    if (came != p->came[of] || zmg_link_end(&links[me], of).known) p->heard[of] = now;
-    p->came[of] = came;
+    zmg_node_player other = seen_by(links[me], of);
+    if (other.line.came != p->came[of] || other.end != ZMG_NO_END) p->heard[of] = now;
+    p->came[of] = other.line.came;
     if (now - p->heard[of] > PATIENCE) give_up(me, of);
 }
 
 /* Whom another has given up is given up. One who is given up itself reports nobody. */
 static void follow(uint8_t me, uint8_t of) {
-    MUST(!zmg_link_reports_gone(&links[me], of, me));
+    zmg_node_player other = seen_by(links[me], of);
+    MUST(!other.reports[me]);
     for (uint8_t p = 0; p < players; p++) {
-        if (!zmg_link_reports_gone(&links[me], of, p)) continue;
+        if (!other.reports[p]) continue;
         MUST(!(all[me].gone >> of & 1));
         give_up(me, p);
     }
 }
 
 static void tick(uint8_t me) {
-    if (all[me].leaves == now) zmg_link_quit(&links[me]);
-    zmg_link_build(&links[me], draw());
-    zmg_link_lean(&links[me]);
+    zmg_command c = { (int16_t)draw(), (int8_t)below(100), (int8_t)below(80), (uint8_t)draw(), 1 };
+    int32_t later;
+    if (all[me].leaves == now) zmg_node_quit(links[me]);
+    zmg_node_give(links[me], &c);
+    MUST(zmg_link_tick(links[me], &later) == ZMG_OK);
     for (uint8_t p = 0; p < players; p++) {
         if (p != me) look_for_silence(me, p);
         if (p != me) follow(me, p);
     }
     for (uint8_t to = 0; to < NODES; to++) give(me, to);
     run(me);
-    if (zmg_link_catch_up(&links[me]).code == ZMG_BUILD_MADE) run(me);
+    if (zmg_link_catch_up(links[me]) == ZMG_OK) run(me);
 }
 
 /* A report is missing, of those by which it is known where the players end who are given up. */
-static int awaits_report(uint8_t me) { return all[me].gone && zmg_link_undecided(&links[me]).known; }
+static int awaits_report(uint8_t me) { return all[me].gone && state_of(links[me]).is_undecided; }
 
 /* Once none is missing, it is known. */
 static void look_at_ends(uint8_t me) {
     if (awaits_report(me)) return;
     for (uint8_t p = 0; p < players; p++)
-        if (all[me].gone >> p & 1) MUST(zmg_link_end(&links[me], p).known);
+        if (all[me].gone >> p & 1) MUST(seen_by(links[me], p).end != ZMG_NO_END);
 }
 
 static void hear(const flight *f) {
     int awaited = awaits_report(f->to);
-    zmg_received r = zmg_link_receive(&links[f->to], f->bytes, f->length);
-    MUST(r.player == f->from && r.reason == 0);
+    zmg_received r;
+    zmg_received_code code = zmg_link_receive(links[f->to], f->bytes, f->length, &r);
+    MUST(r.code == code && r.player == f->from && r.reason == 0);
     if (all[f->to].gone >> f->from & 1) {
-        MUST(r.code == ZMG_LINK_RECEIVE_GIVEN_UP);
+        MUST(r.code == ZMG_RECEIVED_GIVEN_UP);
         return;
     }
-    MUST(r.code == ZMG_LINK_RECEIVE_HEARD);
+    MUST(r.code == ZMG_RECEIVED_HEARD);
     look_at_ends(f->to);
     decided += awaited && !awaits_report(f->to);
     run(f->to);
@@ -184,18 +189,20 @@ static void arrive(void) {
 /* ---- A game ---- */
 
 static void make(uint8_t me) {
-    static const uint8_t secret[ZMG_SECRET_SIZE] = { 1 };
-    uint8_t number[ZMG_NUMBER_SIZE] = { 2 };
-    zmg_config c = config_of(1 << 20, players, me);
-    memcpy(number + 1, &games, sizeof games);
-    MUST(zmg_link_new(&links[me], &c, (uint8_t)(5 + games % 8), secret, number) == ZMG_NEW_OK);
+    zmg_node_config c = config_of(1 << 20, players, me);
+    c.window = (uint8_t)(5 + games % 8);
+    c.secret.bytes[0] = 1;
+    c.game.bytes[0] = 2;
+    memcpy(c.game.bytes + 1, &games, sizeof games);
+    MUST(zmg_link_new(&links[me], &c) == ZMG_OK);
 }
 
 /* Who does what, and when. */
 static void draw_plot(void) {
     uint32_t one = below(players), at = 120 + below(400);
     what = (plot)(games % PLOTS);
-    if (what == PARTED || what == TWO_CRASH || what == CRASH_WHILE_DECIDING) players = what == PARTED ? 4 : 3 + below(2);
+    if (what == PARTED) players = 4;
+    if (what == TWO_CRASH || what == CRASH_WHILE_DECIDING) players = 3 + below(2);
     one = below(players);
     switch (what) {
     case TWO_CRASH: all[one].crashes = all[(one + 1) % players].crashes = at; break;
@@ -242,23 +249,24 @@ static int have_parted(uint8_t one, uint8_t other) {
     return (all[one].gone >> other & 1) || (all[other].gone >> one & 1);
 }
 
-/* The moves of a player are the same wherever both have them; and if neither has given up the other, both have
- * them of the same players. */
+/* The commands of a player are the same wherever both have them; and if neither has given up the other, both
+ * have them of the same players. */
 static void compare_rows(uint8_t one, uint8_t other) {
     uint32_t common = all[one].ran < all[other].ran ? all[one].ran : all[other].ran;
     for (uint32_t tic = 0; tic < common; tic++)
         for (unsigned p = 0; p < 4; p++) {
-            const zmg_move *a = &all[one].rows[tic][p], *b = &all[other].rows[tic][p];
-            if (a->present && b->present) MUST(memcmp(a, b, sizeof *a) == 0);
-            if (!have_parted(one, other)) MUST(a->present == b->present);
+            const zmg_row *a = &all[one].rows[tic], *b = &all[other].rows[tic];
+            if (a->present[p] && b->present[p])
+                MUST(memcmp(&a->commands[p], &b->commands[p], sizeof a->commands[p]) == 0);
+            if (!have_parted(one, other)) MUST(a->present[p] == b->present[p]);
         }
 }
 
 static void compare_demos(uint8_t one, uint8_t other) {
     static uint8_t demos[2][MOST_DEMO];
     size_t lengths[2], shorter;
-    lengths[0] = zmg_link_demo(&links[one], 0, demos[0], MOST_DEMO);
-    lengths[1] = zmg_link_demo(&links[other], 0, demos[1], MOST_DEMO);
+    lengths[0] = zmg_node_demo(links[one], 0, demos[0], MOST_DEMO);
+    lengths[1] = zmg_node_demo(links[other], 0, demos[1], MOST_DEMO);
     shorter = lengths[0] < lengths[1] ? lengths[0] : lengths[1];
     if (shorter <= HEAD + 1) return;
     demos[1][VIEW - 1] = demos[0][VIEW - 1];
@@ -289,7 +297,7 @@ static void game(void) {
         look_for_progress(one);
         for (uint8_t other = 0; other < one; other++) compare(other, one);
     }
-    for (uint8_t p = 0; p < players; p++) zmg_link_free(&links[p]);
+    for (uint8_t p = 0; p < players; p++) zmg_node_free(links[p]);
     games++;
 }
 

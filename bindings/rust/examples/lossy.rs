@@ -1,9 +1,11 @@
-//! Two players in one process, over a line that loses, repeats and delays datagrams: `lossy [SEED]`. Their
-//! world is a ring road, and each makes its own commands, as from a mouse.
+//! Two players in one process, over a line that loses, repeats and delays datagrams: `lossy [SEED]`. Their world is a
+//! ring road, and each makes its own commands, as from a mouse.
 
-use zirmegat::{Command, Config, Dropped, Heard, Move, Node, Ran, Settings, Start, World};
+use zirmegat::{
+    Address, Command, Event, Host, Join, Key, Name, Over, Run, Session, State, Terms, DATAGRAM_SIZE,
+};
 
-/// How many commands each player makes.
+/// How many tics each player runs before it leaves.
 const TICS: u32 = 1000;
 
 /// How long the road is.
@@ -12,26 +14,21 @@ const LENGTH: i32 = 1_000_003;
 /// A ring road with cars on it, each at a place and with a speed.
 #[derive(Default, Debug, PartialEq, Clone)]
 struct Road {
-    cars: [Option<(i32, i32)>; 4],
+    cars: [(i32, i32); 4],
 }
 
-impl World for Road {
-    fn begin(&mut self, _start: &Start, present: [bool; 4]) {
-        self.cars = std::array::from_fn(|seat| present[seat].then_some((seat as i32 * 1000, 0)));
-    }
-
-    fn step(&mut self, moves: &[Option<Move>; 4]) {
-        for (car, step) in self.cars.iter_mut().zip(moves) {
-            if let (Some((at, speed)), Some(step)) = (car, step) {
-                *speed = (*speed + i32::from(step.forward) - i32::from(step.turn) / 64)
-                    .clamp(-9999, 9999);
-                *at = (*at + *speed).rem_euclid(LENGTH);
-            }
+impl Road {
+    fn step(&mut self, commands: &[Option<Command>; 4]) {
+        for ((at, speed), command) in self.cars.iter_mut().zip(commands) {
+            let Some(step) = command else { continue };
+            let faster = i32::from(step.forward) - i32::from(step.turn) / 64;
+            *speed = (*speed + faster).clamp(-9999, 9999);
+            *at = (*at + *speed).rem_euclid(LENGTH);
         }
     }
 
-    fn mark(&self, player: usize) -> i16 {
-        self.cars[player].map_or(0, |(at, speed)| (at ^ speed) as i16)
+    fn marks(&self) -> [i16; 4] {
+        self.cars.map(|(at, speed)| (at ^ speed) as i16)
     }
 }
 
@@ -57,83 +54,129 @@ impl Luck {
     }
 }
 
-/// One direction of the line: datagrams, each with the round in which it comes. None is older than 16 rounds,
-/// so nothing comes from more than 64 tics away.
+/// One direction of the line: datagrams, each with when it comes.
 #[derive(Default)]
 struct Way {
     flying: Vec<(u32, Vec<u8>)>,
 }
 
 impl Way {
-    fn send(&mut self, luck: &mut Luck, round: u32, bytes: &[u8]) {
+    fn send(&mut self, luck: &mut Luck, now: u32, bytes: &[u8]) {
         let copies = match luck.next() % 10 {
-            0..=2 => 0,
-            3 => 2,
+            0 => 0,
+            1 => 2,
             _ => 1,
         };
         for _ in 0..copies {
-            self.flying.push((round + luck.next() % 16, bytes.to_vec()));
+            self.flying
+                .push((now + 20 + luck.next() % 60, bytes.to_vec()));
         }
     }
 
-    fn arrived(&mut self, round: u32) -> Vec<Vec<u8>> {
-        let (now, later): (Vec<_>, Vec<_>) =
-            self.flying.drain(..).partition(|(due, _)| *due <= round);
+    fn arrived(&mut self, now: u32) -> Vec<Vec<u8>> {
+        let (here, later): (Vec<_>, Vec<_>) =
+            self.flying.drain(..).partition(|(due, _)| *due <= now);
         self.flying = later;
-        now.into_iter().map(|(_, bytes)| bytes).collect()
+        here.into_iter().map(|(_, bytes)| bytes).collect()
     }
 }
 
-fn main() {
+/// A player: its session, its world at the end of the tics, and whether it is over.
+struct Player {
+    session: Session,
+    road: Road,
+    last: Option<Road>,
+    over: Option<Over>,
+}
+
+impl Player {
+    /// What an engine does as often as it draws.
+    fn turn(&mut self, luck: &mut Luck, now: u32) -> Result<(), zirmegat::Error> {
+        self.session.poll(now)?;
+        while let Some(event) = self.session.event() {
+            if let Event::Over(why) = event {
+                self.over = Some(why);
+            }
+        }
+        while self.session.wants_input(now) {
+            self.session.give(&luck.hand(), now)?;
+        }
+        loop {
+            match self.session.run(&self.road.marks()) {
+                Run::Ran(row) => {
+                    self.road.step(&row.commands);
+                    if row.tic + 1 == TICS {
+                        self.last = Some(self.road.clone());
+                        self.session.quit(now);
+                    }
+                }
+                Run::Inconsistent { .. } | Run::DemoFull => panic!("the worlds differ"),
+                _ => return Ok(()),
+            }
+        }
+    }
+}
+
+fn main() -> Result<(), zirmegat::Error> {
     let mut luck = Luck(
         std::env::args()
             .nth(1)
             .and_then(|word| word.parse().ok())
             .unwrap_or(1),
     );
-    let settings = Settings {
-        skill: 2,
-        episode: 1,
-        map: 1,
-        ..Settings::default()
+    // the key comes from a file, and random bytes from the system
+    let key = Some(Key([7; 32]));
+    let places = [Address([1; 32]), Address([2; 32])];
+    let host = Host {
+        terms: Terms::default(),
+        key,
+        random: [luck.next() as u8 | 1; 32],
+        name: Name::from("Ann"),
     };
-    let mut players = [
-        Node::new(Config::key(2, settings), Road::default()).expect("player 0"),
-        Node::new(Config::other(2, 1), Road::default()).expect("player 1"),
-    ];
+    let join = Join {
+        host: places[0],
+        key,
+        random: [luck.next() as u8 | 1; 32],
+        identity: [0; 16],
+        name: Name::from("Bob"),
+        seat: None,
+        players: None,
+    };
+    let mut players = [Session::host(&host)?, Session::join(&join, 0)?].map(|session| Player {
+        session,
+        road: Road::default(),
+        last: None,
+        over: None,
+    });
     let mut ways = [Way::default(), Way::default()];
-    let mut round = 0;
-    while players[0].ran() < TICS || players[1].ran() < TICS {
+    let mut bytes = [0; DATAGRAM_SIZE];
+    let mut now = 0;
+    while players.iter().any(|player| player.over.is_none()) {
         for me in 0..2 {
-            let player = &mut players[me];
-            if player.made() < TICS && player.can_build() {
-                player.give(luck.hand());
-            }
-            if let Some(packet) = player.packet(1 - me as u8) {
-                ways[me].send(&mut luck, round, &packet);
-            }
-            for bytes in ways[1 - me].arrived(round) {
-                // set-up packets may come late, and other packets before them
-                match player.receive(1 - me as u8, &bytes) {
-                    Heard::Dropped(why) => assert!(
-                        matches!(why, Dropped::OutOfPlace | Dropped::NotPlaying),
-                        "{why:?}"
-                    ),
-                    _ => (),
+            for datagram in ways[1 - me].arrived(now) {
+                players[me].session.receive(&places[1 - me], &datagram, now);
+                while let Some((_, reply)) = players[me].session.transmit(&mut bytes) {
+                    ways[me].send(&mut luck, now, reply);
                 }
             }
-            assert!(matches!(
-                player.run_all(),
-                Ran::Waiting(_) | Ran::NotPlaying
-            ));
+            players[me].turn(&mut luck, now)?;
+            while let Some((_, datagram)) = players[me].session.transmit(&mut bytes) {
+                ways[me].send(&mut luck, now, datagram);
+            }
         }
-        round += 1;
-        assert!(round < 100_000, "the game does not go on");
+        now += 5;
+        assert!(now < 200_000, "the game does not go on");
     }
-    let [mut key, mut other] = players;
-    assert!(key.quit() && other.quit());
-    assert_eq!(key.world(), other.world());
-    let (one, two) = (key.demo(), other.demo());
-    assert_eq!(one[9..], two[9..]);
-    println!("{TICS} tics in {round} rounds, {:?}", key.world().cars);
+    let [one, other] = players;
+    let State { made, ran, .. } = one.session.state();
+    assert_eq!(one.last, other.last);
+    let (one_demo, other_demo) = (one.session.demo(), other.session.demo());
+    let tics = 13 + TICS as usize * 2 * 5;
+    assert_eq!(one_demo[9..tics], other_demo[9..tics]);
+    println!(
+        "{TICS} tics in {} s, {made} made and {ran} ran, {:?}",
+        now / 1000,
+        one.last.expect("the end").cars
+    );
+    Ok(())
 }

@@ -1,221 +1,141 @@
-//! Demos, with no node.
+//! Demos.
 
-use crate::raw;
-use crate::values::{Move, Start};
-use std::error::Error;
-use std::fmt;
+use crate::status::{check, Error};
+use crate::values::Row;
+use std::mem::{size_of, zeroed};
+use std::ptr::{self, NonNull};
+use zirmegat_sys as sys;
 
-/// Why bytes are not a demo, or that there is no memory.
+/// How a game started, as a demo's header has it.
+#[derive(Clone, Copy, Debug, Default, PartialEq, Eq)]
+#[allow(missing_docs)]
+pub struct Start {
+    pub skill: u8,
+    pub episode: u8,
+    pub map: u8,
+    pub deathmatch: u8,
+    pub respawn: u8,
+    pub fast: u8,
+    pub no_monsters: u8,
+}
+
+/// What a demo has beside its rows.
 #[derive(Clone, Copy, Debug, PartialEq, Eq)]
-#[non_exhaustive]
-pub enum DemoError {
-    /// There are fewer than 13 bytes.
-    Short,
-    /// The version is neither 109 nor 111.
-    Version,
-    /// No seat is taken.
-    NoPlayers,
-    /// There is no end marker.
-    NoMarker,
-    /// Out of memory.
-    Memory,
-    /// A code that this crate has no name for.
-    Unknown(u32),
+pub struct Facts {
+    /// How many whole tics it has.
+    pub tics: usize,
+    /// How many commands lie between them and the marker.
+    pub cut: usize,
+    /// How many bytes follow the marker.
+    pub after: usize,
+    /// 109, as Doom 1.9 records, or 111, whose turns have both bytes.
+    pub version: u8,
+    /// The player whose view it shows.
+    pub view: u8,
+    /// How the game started.
+    pub start: Start,
+    /// Which seats have a player.
+    pub present: [bool; 4],
 }
 
-impl fmt::Display for DemoError {
-    fn fmt(&self, f: &mut fmt::Formatter<'_>) -> fmt::Result {
-        f.write_str(match self {
-            DemoError::Short => "the demo has fewer than 13 bytes",
-            DemoError::Version => "the demo's version is neither 109 nor 111",
-            DemoError::NoPlayers => "the demo has no players",
-            DemoError::NoMarker => "the demo has no end marker",
-            DemoError::Memory => "out of memory",
-            DemoError::Unknown(code) => {
-                return write!(f, "the demo was refused with the unknown code {code}");
-            }
-        })
-    }
+/// A demo that was read.
+pub struct Demo {
+    raw: NonNull<sys::zmg_demo>,
 }
 
-impl Error for DemoError {}
-
-/// Why a demo was not upgraded.
-#[derive(Clone, Copy, Debug, PartialEq, Eq)]
-#[non_exhaustive]
-pub enum UpgradeError {
-    /// The bytes are not a demo, or there is no memory ([`DemoError::Memory`]).
-    Demo(DemoError),
-    /// The limit is not 1,024 to 16,777,216 bytes.
-    Limit,
-    /// The upgraded demo has more bytes than the limit.
-    TooLong,
-    /// A code that this crate has no name for.
-    Unknown(u32),
-}
-
-impl fmt::Display for UpgradeError {
-    fn fmt(&self, f: &mut fmt::Formatter<'_>) -> fmt::Result {
-        match self {
-            UpgradeError::Demo(error) => error.fmt(f),
-            UpgradeError::Limit => f.write_str("the demo's limit is not 1024 to 16777216 bytes"),
-            UpgradeError::TooLong => f.write_str("the upgraded demo exceeds its limit"),
-            UpgradeError::Unknown(code) => {
-                write!(f, "the upgrade was refused with the unknown code {code}")
-            }
-        }
-    }
-}
-
-impl Error for UpgradeError {}
-
-pub(crate) fn done(code: u32) -> Result<(), DemoError> {
-    match code {
-        0 => Ok(()),
-        1 => Err(DemoError::Short),
-        2 => Err(DemoError::Version),
-        3 => Err(DemoError::NoPlayers),
-        4 => Err(DemoError::NoMarker),
-        5 => Err(DemoError::Memory),
-        code => Err(DemoError::Unknown(code)),
-    }
-}
-
-pub(crate) fn upgraded(code: u32) -> Result<(), UpgradeError> {
-    match code {
-        0..=5 => done(code).map_err(UpgradeError::Demo),
-        6 => Err(UpgradeError::Limit),
-        7 => Err(UpgradeError::TooLong),
-        code => Err(UpgradeError::Unknown(code)),
-    }
-}
-
-/// A reader of a demo, which takes the demo's bytes in pieces.
-#[derive(Debug)]
-pub struct Reader(Demo);
-
-impl Reader {
-    /// Makes a reader. Returns [`DemoError::Memory`] if there is no memory for it.
-    pub fn new() -> Result<Reader, DemoError> {
-        let demo = Demo(raw::Held::nothing());
-        // SAFETY: the call has exclusive use of the handle (`Held`).
-        done(unsafe { raw::zmg_demo_new(demo.0.at()) })?;
-        Ok(Reader(demo))
-    }
-
-    /// Takes the next piece of the demo's bytes, and keeps a copy. Returns [`DemoError::Memory`] if there is
-    /// no memory for the copy, and then takes nothing.
-    pub fn push(&mut self, piece: &[u8]) -> Result<(), DemoError> {
-        // SAFETY: the call has exclusive use of the handle (`Held`), and the slice is valid for its length.
-        done(unsafe { raw::zmg_demo_push(self.0 .0.at(), piece.as_ptr(), piece.len()) })
-    }
-
-    /// Reads the bytes that were pushed. Returns the first fault that they have, if they are not a demo. It
-    /// allocates no memory.
-    pub fn read(self) -> Result<Demo, DemoError> {
-        // SAFETY: the call has exclusive use of the handle (`Held`).
-        done(unsafe { raw::zmg_demo_read(self.0 .0.at()) })?;
-        Ok(self.0)
-    }
-}
-
-/// A demo that was read. Dropping it frees its memory. It may pass to another thread, but only one thread at
-/// a time uses it.
-pub struct Demo(raw::Held);
-
-impl Demo {
-    /// Reads a demo of version 109 or 111. Returns the first fault that the bytes have, if they are not a
-    /// demo, and [`DemoError::Memory`] if there is no memory for a copy of them.
-    pub fn read(bytes: &[u8]) -> Result<Demo, DemoError> {
-        let mut reader = Reader::new()?;
-        reader.push(bytes)?;
-        reader.read()
-    }
-
-    fn told(&self) -> raw::DemoTold {
-        // SAFETY: the call has exclusive use of the handle (`Held`).
-        unsafe { raw::zmg_demo_tell(self.0.at()) }
-    }
-
-    /// Returns the version: 109, as Doom 1.9 records, or 111, whose turns have both bytes.
-    pub fn version(&self) -> u8 {
-        self.told().version
-    }
-
-    /// Returns how the game started, as the demo's header has it.
-    pub fn start(&self) -> Start {
-        self.told().start
-    }
-
-    /// Returns the player whose view it shows.
-    pub fn view(&self) -> u8 {
-        self.told().view
-    }
-
-    /// Returns true for each seat with a player.
-    pub fn present(&self) -> [bool; 4] {
-        self.told().present.map(|seat| seat != 0)
-    }
-
-    /// Returns how many whole tics it has.
-    pub fn tics(&self) -> usize {
-        self.told().tics
-    }
-
-    /// Returns how many commands lie between the whole tics and the marker.
-    pub fn cut(&self) -> usize {
-        self.told().cut
-    }
-
-    /// Returns how many bytes follow the marker.
-    pub fn after(&self) -> usize {
-        self.told().after
-    }
-
-    /// Returns the moves of a tic, counted from 0; None if there is no such tic.
-    pub fn row(&self, tic: usize) -> Option<[Option<Move>; 4]> {
-        let mut row = [raw::Move::default(); 4];
-        // SAFETY: the call has exclusive use of the handle (`Held`), and the row has four elements.
-        let known = unsafe { raw::zmg_demo_row(self.0.at(), tic, row.as_mut_ptr()) };
-        (known != 0).then_some(row.map(Move::of))
-    }
-}
+// SAFETY: a handle is bound to no thread.
+unsafe impl Send for Demo {}
 
 impl Drop for Demo {
     fn drop(&mut self) {
-        // SAFETY: the call has exclusive use of the handle (`Held`).
-        unsafe { raw::zmg_demo_free(self.0.at()) }
+        // SAFETY: the handle is this demo's own, and is not used again.
+        unsafe { sys::zmg_demo_free(self.raw.as_ptr()) }
     }
 }
 
-impl fmt::Debug for Demo {
-    fn fmt(&self, f: &mut fmt::Formatter<'_>) -> fmt::Result {
-        f.write_str("Demo")
+impl std::fmt::Debug for Demo {
+    fn fmt(&self, f: &mut std::fmt::Formatter<'_>) -> std::fmt::Result {
+        f.debug_tuple("Demo").field(&self.facts()).finish()
     }
 }
 
-/// The most bytes that a demo may have.
-const MOST: usize = 1 << 24;
-
-/// Writes a demo anew as version 111: the same start, view, players and whole tics. The new demo has at most
-/// `limit` bytes, which is 1,024 to 16,777,216. While it works, the call holds memory for twice the limit and
-/// for a copy of the demo.
-///
-/// Returns the fault of the bytes if they are not a demo; else [`UpgradeError::Limit`] if the limit is out of
-/// range; else [`UpgradeError::TooLong`] if the new demo would exceed it. [`DemoError::Memory`], in
-/// [`UpgradeError::Demo`], may come instead of any of these.
-pub fn upgrade(bytes: &[u8], limit: usize) -> Result<Vec<u8>, UpgradeError> {
-    // one byte more than the largest limit is refused like any larger one
-    let room = limit.min(MOST + 1);
-    let mut out = Vec::new();
-    if out.try_reserve_exact(room).is_err() {
-        return Err(UpgradeError::Demo(DemoError::Memory));
+impl Demo {
+    /// Reads a demo, of which a copy is kept: the first of [`Error::DemoShort`] to [`Error::DemoMarker`] that holds, or
+    /// [`Error::Memory`].
+    pub fn read(bytes: &[u8]) -> Result<Demo, Error> {
+        let mut raw = ptr::null_mut();
+        // SAFETY: the pointers are of live values, and the length is the bytes' own.
+        check(unsafe { sys::zmg_demo_read(&mut raw, bytes.as_ptr(), bytes.len()) })?;
+        NonNull::new(raw)
+            .map(|raw| Demo { raw })
+            .ok_or(Error::Memory)
     }
-    out.resize(room, 0);
-    // SAFETY: both slices are valid for their lengths, and do not overlap.
-    let made =
-        unsafe { raw::zmg_demo_upgrade(bytes.as_ptr(), bytes.len(), out.as_mut_ptr(), out.len()) };
-    upgraded(made.code)?;
-    out.truncate(made.length);
+
+    /// Returns what it has beside its rows.
+    #[must_use]
+    pub fn facts(&self) -> Facts {
+        // SAFETY: zeros are facts.
+        let mut raw: sys::zmg_demo_facts = unsafe { zeroed() };
+        // SAFETY: the handle is a demo's, and the pointer is of a live value of that size.
+        unsafe {
+            sys::zmg_demo_tell(
+                self.raw.as_ptr(),
+                &mut raw,
+                size_of::<sys::zmg_demo_facts>(),
+            )
+        };
+        Facts {
+            tics: raw.tics,
+            cut: raw.cut,
+            after: raw.after,
+            version: raw.version,
+            view: raw.view,
+            start: Start {
+                skill: raw.start.skill,
+                episode: raw.start.episode,
+                map: raw.start.map,
+                deathmatch: raw.start.deathmatch,
+                respawn: raw.start.respawn,
+                fast: raw.start.fast,
+                no_monsters: raw.start.no_monsters,
+            },
+            present: raw.present.map(|there| there != 0),
+        }
+    }
+
+    /// Returns the row of a tic, counted from 0, whose commands have no chat.
+    #[must_use]
+    pub fn row(&self, tic: usize) -> Option<Row> {
+        // SAFETY: zeros are a row.
+        let mut row = unsafe { zeroed() };
+        // SAFETY: the handle is a demo's, and the pointer is of a live value.
+        let status = unsafe { sys::zmg_demo_row(self.raw.as_ptr(), tic, &mut row) };
+        (status == sys::ZMG_OK).then(|| Row::of(&row))
+    }
+
+    /// Returns the rows, from tic 0 on.
+    pub fn rows(&self) -> impl Iterator<Item = Row> + '_ {
+        (0..).map_while(|tic| self.row(tic))
+    }
+}
+
+/// Writes a demo anew as version 111: the same start, view, players and whole tics. `limit` is how many bytes it may
+/// have. The first of these that holds: the bytes are not a demo ([`Error::DemoShort`] to [`Error::DemoMarker`]);
+/// [`Error::Memory`]; [`Error::Limit`], not 1,024 to 16,777,216; [`Error::Room`], the new demo has more bytes.
+pub fn upgrade(bytes: &[u8], limit: usize) -> Result<Vec<u8>, Error> {
+    // one byte more than any limit is refused like any more
+    let mut out = vec![0; limit.min(16_777_217)];
+    let mut written = 0;
+    // SAFETY: the pointers are of live values, and the lengths are their own.
+    check(unsafe {
+        sys::zmg_demo_upgrade(
+            bytes.as_ptr(),
+            bytes.len(),
+            out.as_mut_ptr(),
+            out.len(),
+            &mut written,
+        )
+    })?;
+    out.truncate(written);
     Ok(out)
 }

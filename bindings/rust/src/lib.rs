@@ -1,129 +1,99 @@
-//! Vanilla Doom's network play, as it was released in 1997, for an engine that has a world of its own.
+//! Vanilla Doom's network play for an engine that has a world of its own.
 //!
-//! A [`Node`] is one player's part of a game of two to four players: a [`Lockstep`] and a [`World`], kept in
-//! step. For each tic it takes a [`Command`], or builds one from [`Keys`]. It writes and reads Doom's
-//! datagrams, steps the world by each tic whose commands are there, checks the marks of the other players'
-//! worlds, and records a demo. The network is yours: send each packet to its player's machine, and pass each
-//! datagram that comes to [`Node::receive`]. A tic is 1/35 second; the engine's own clock sets the pace.
+//! A [`Session`] is one player of a netgame of two to four: its lobby, and then its part in the game. It opens no
+//! socket and reads no clock. It is given what comes, and the time, and returns what is to be sent. Maps, monsters and
+//! physics stay yours. A tic is 1/35 second, or as long as the rate of the terms says.
 //!
 //! Two players in one process:
 //!
 //! ```
-//! use zirmegat::{Config, Keys, Move, Phase, Node, Settings, Start, World};
+//! use zirmegat::{Address, Command, Host, Join, Key, Name, Run, Session, Terms, DATAGRAM_SIZE};
 //!
-//! /// Players who move along a line.
-//! #[derive(Default)]
-//! struct Line {
-//!     at: [i32; 4],
+//! fn send_all(players: &mut [Session; 2], places: &[Address; 2], me: usize, now: u32) {
+//!     let mut bytes = [0; DATAGRAM_SIZE];
+//!     // an engine sends the bytes by UDP
+//!     while let Some((_to, datagram)) = players[me].transmit(&mut bytes) {
+//!         players[1 - me].receive(&places[me], datagram, now);
+//!         send_all(players, places, 1 - me, now); // a reply goes before the next datagram comes
+//!     }
 //! }
 //!
-//! impl World for Line {
-//!     fn begin(&mut self, _start: &Start, _present: [bool; 4]) {
-//!         self.at = [0; 4];
-//!     }
-//!
-//!     fn step(&mut self, moves: &[Option<Move>; 4]) {
-//!         for (at, step) in self.at.iter_mut().zip(moves) {
-//!             *at = at.wrapping_add(step.map_or(0, |step| i32::from(step.forward)));
+//! # fn main() -> Result<(), zirmegat::Error> {
+//! // the key comes from a file, and random bytes from the system
+//! let key = Some(Key([7; 32]));
+//! let places = [Address([1; 32]), Address([2; 32])];
+//! let host = Host { terms: Terms::default(), key, random: [1; 32], name: Name::from("Ann") };
+//! let join = Join {
+//!     host: places[0],
+//!     key,
+//!     random: [2; 32],
+//!     identity: [0; 16],
+//!     name: Name::from("Bob"),
+//!     seat: None,
+//!     players: None,
+//! };
+//! let mut players = [Session::host(&host)?, Session::join(&join, 0)?];
+//! let mut worlds = [[0i16; 4]; 2];
+//! for now in (0..10_000).step_by(10) {
+//!     for me in 0..2 {
+//!         let player = &mut players[me];
+//!         player.poll(now)?;
+//!         while player.wants_input(now) {
+//!             player.give(&Command { forward: 25 + 25 * me as i8, ..Command::default() }, now)?;
 //!         }
-//!     }
-//!
-//!     fn mark(&self, player: usize) -> i16 {
-//!         self.at[player] as i16
+//!         while let Run::Ran(row) = player.run(&worlds[me]) {
+//!             for (at, command) in worlds[me].iter_mut().zip(row.commands) {
+//!                 *at = at.wrapping_add(command.map_or(0, |command| command.forward.into()));
+//!             }
+//!         }
+//!         send_all(&mut players, &places, me, now);
 //!     }
 //! }
-//!
-//! # fn main() -> Result<(), zirmegat::NodeError> {
-//! let settings = Settings { skill: 2, episode: 1, map: 1, ..Settings::default() };
-//! let mut key = Node::new(Config::key(2, settings), Line::default())?;
-//! let mut other = Node::new(Config::other(2, 1), Line::default())?;
-//! for tic in 0..100 {
-//!     key.build(Keys::FORWARD);
-//!     other.build(if tic < 50 { Keys::FORWARD } else { Keys::BACK });
-//!     // a real engine sends each packet to its player's machine
-//!     if let Some(packet) = key.packet(1) {
-//!         other.receive(0, &packet);
-//!     }
-//!     if let Some(packet) = other.packet(0) {
-//!         key.receive(1, &packet);
-//!     }
-//!     key.run_all();
-//!     other.run_all();
-//! }
-//! assert_eq!(key.phase(), Phase::Playing);
-//! assert_eq!(key.ran(), 99); // the first round is the set-up
-//! assert_eq!(key.world().at, other.world().at);
-//! assert!(key.quit());
-//! assert_eq!(key.demo().len(), 13 + 99 * 2 * 5 + 1);
+//! assert!(worlds[0][1] > 0 && worlds[0] == worlds[1]);
 //! # Ok(())
 //! # }
 //! ```
 //!
-//! A node needs its datagrams as they were sent, the number of their sender, and none that is old:
-//! [`Lockstep::receive`] has the rules. On a network that nobody vouches for, such as the internet, a
-//! [`LinkNode`] takes care of this itself: its datagrams are sealed under a secret that the players share, and
-//! [`LinkNode::receive`] takes in any bytes. It also takes care of delivery, pace and the lobby: each of its
-//! datagrams has what is kept for the peer, as far as it fits.
-//!
 //! What the caller owes:
 //!
-//! - Each player of a game has one node, made once. [`Config::players`], [`Config::extra`], [`Config::limit`]
-//!   and the window are the same for all.
-//! - Every world keeps to what [`World`] requires. An engine that steps its own world, over a [`Lockstep`] or
-//!   [`Link`], passes the marks of that world to `run`.
+//! - [`Session::run`] is given the marks of the caller's own world. That world began with the terms of the state, and
+//!   was stepped by every row that was returned, and by nothing else. Its marks follow from its state alone.
 //! - No call is made from a signal handler, or from a forked child of a process with threads.
 //!
-//! The crate opens nothing, never waits, and prints nothing. `new` and `within` allocate all memory of a node
-//! or link; of the later calls on it only `demo` allocates, for the copy that it returns. Readers of demos,
-//! [`upgrade`] and [`Packet`] allocate their own. A [`Lockstep`], [`Node`], [`Link`], [`LinkNode`], [`Reader`]
-//! or [`Demo`] may pass to another thread, but only one thread at a time uses it. The types are not `Sync`;
-//! they are `Send`, a node with a world if the world is.
+//! The crate opens nothing, never waits, and prints nothing. A [`Session`], [`Demo`] or [`parts::Node`] may pass to
+//! another thread, but only one thread at a time uses it: they are `Send`, and not `Sync`.
 //!
-//! A later library may return codes that this crate has no name for. Each enum that is made from a code holds
-//! such a code in its variant `Unknown`. So no unknown code is taken for a known one, and none makes the
-//! program panic.
+//! [`parts`] has links and locksteps, for those who have a lobby or a transport of their own.
 //!
-//! The library below this crate is proved, except for what docs/PROMISES.md lists as trusted. The crate
-//! itself is not proved. It passes references as pointers, turns numbers into enums, and calls the [`World`]
-//! of a node.
+//! A later library may return codes that this crate has no name for. Each enum that is made from a code holds such a
+//! code in its variant `Unknown`. So no unknown code is taken for a known one, and none makes the program panic.
+//!
+//! The library below this crate is proved, except for what docs/PROMISES.md lists as trusted. The crate itself is not
+//! proved. It passes references as pointers, and turns numbers into enums.
 
 #![deny(missing_docs)]
 #![deny(unsafe_op_in_unsafe_fn)]
 #![deny(clippy::undocumented_unsafe_blocks)]
+// the library's numbers of players and seats fit a byte, and each call says in its text which errors it has
+#![allow(clippy::cast_possible_truncation, clippy::missing_errors_doc)]
 
-mod calls;
 mod demo;
-mod given;
-mod link;
-mod lockstep;
-mod node;
 mod packet;
-mod raw;
-mod raw_session;
+pub mod parts;
 mod session;
-mod surviving;
+mod status;
 mod values;
 
-pub use demo::{upgrade, Demo, DemoError, Reader, UpgradeError};
-pub use link::{BundleError, Line, Link, LinkDatagram, LinkNode, Parting, Received};
-pub use lockstep::{Datagram, Lockstep, NodeError};
-pub use node::{Node, World};
-pub use packet::{Command, Packet, PacketError, EXIT, KILL, RETRANSMIT, SETUP};
+pub use demo::{upgrade, Demo, Facts, Start};
 pub use session::{
-    Address, Event, Me, Over, Player, Policy, Session, SessionError, Stage, Standing, State, Terms,
-    Tic, Transmit, Wish,
+    Event, Host, Join, Player, Policy, Seat, Session, Stage, Standing, State, Terms, DATAGRAM_SIZE,
 };
-pub use surviving::{GivenUp, SettleError};
-pub use values::{
-    Aim, Cause, Config, Dropped, Heard, Keys, Made, Move, Phase, Ran, Settings, Start, MOST_AHEAD,
-    WIDEST_AHEAD,
-};
+pub use status::{Error, Over};
+pub use values::{Address, Command, Key, Keys, Line, Name, Row, Run, Settings};
 
 /// Returns the version of the library that is linked: 65,536 times the first number, plus the second.
+#[must_use]
 pub fn version() -> u32 {
     // SAFETY: the call requires nothing.
-    unsafe { raw::zmg_version() }
+    unsafe { zirmegat_sys::zmg_version() }
 }
-
-#[cfg(test)]
-mod tests;

@@ -1,39 +1,35 @@
-//! Datagrams, with no node.
+//! The packets of 1997 as fields, with no node.
 
-use crate::raw;
-use std::error::Error;
-use std::fmt;
+use crate::status::codes;
+use zirmegat_sys as sys;
 
 /// The sender has left, and its commands end with these.
-pub const EXIT: u8 = 8;
+pub const EXIT: u8 = sys::ZMG_FLAG_EXIT as u8;
 /// The sender asks for the commands from [`ask`](Packet::ask) on again.
-pub const RETRANSMIT: u8 = 4;
+pub const RETRANSMIT: u8 = sys::ZMG_FLAG_RETRANSMIT as u8;
 /// The packet has player 0's settings.
-pub const SETUP: u8 = 2;
+pub const SETUP: u8 = sys::ZMG_FLAG_SETUP as u8;
 /// The packet ends a game. No node sends or obeys it.
-pub const KILL: u8 = 1;
+pub const KILL: u8 = sys::ZMG_FLAG_KILL as u8;
 
-/// A tic command, as [`give`](crate::Lockstep::give) takes it, [`command`](crate::Lockstep::command) returns
-/// it, and packets carry it.
+/// A command as a packet has it.
 #[derive(Clone, Copy, Debug, Default, PartialEq, Eq)]
-pub struct Command {
-    /// The move forward, in units of 2048 in a world of 16 fractional bits.
-    pub forward: i8,
-    /// The move to the right, in the same units.
-    pub side: i8,
-    /// The turn to the left, in 65,536ths of a full turn.
+pub struct SentCommand {
+    /// As in a [`Command`](crate::Command).
     pub turn: i16,
     /// The consistency mark of the player's own world twelve tics before, 0 below tic 12.
-    /// [`give`](crate::Lockstep::give) does not read it.
     pub mark: i16,
-    /// A letter of chat, which the library carries and does not read.
+    /// As in a [`Command`](crate::Command).
+    pub forward: i8,
+    /// As in a [`Command`](crate::Command).
+    pub side: i8,
+    /// As in a [`Command`](crate::Command).
     pub chat: u8,
-    /// As in [`Move`](crate::Move::buttons). With bit 7 it is pause or save, which the engine obeys itself.
+    /// As in a [`Command`](crate::Command).
     pub buttons: u8,
 }
 
-/// The fields of a datagram. A set-up packet has the settings in `ask` and `start`, and the version in
-/// `player`.
+/// The fields of a packet. A set-up packet has the settings in `ask` and `start`, and the version in `player`.
 #[derive(Clone, Debug, Default, PartialEq, Eq)]
 pub struct Packet {
     /// The bits of [`EXIT`], [`RETRANSMIT`], [`SETUP`] and [`KILL`].
@@ -45,122 +41,88 @@ pub struct Packet {
     /// The sender's number.
     pub player: u8,
     /// One command for each tic from `start` on, at most 12.
-    pub commands: Vec<Command>,
+    pub commands: Vec<SentCommand>,
 }
 
-/// Why bytes are not a datagram.
-#[derive(Clone, Copy, Debug, PartialEq, Eq)]
-#[non_exhaustive]
-pub enum PacketError {
-    /// Fewer than 8 bytes.
-    Short,
-    /// They announce more than 12 commands.
-    Many,
-    /// The length does not match the commands that they announce.
-    Length,
-    /// The sum is wrong.
-    Sum,
-    /// A code that this crate has no name for.
-    Unknown(u32),
-}
-
-impl fmt::Display for PacketError {
-    fn fmt(&self, f: &mut fmt::Formatter<'_>) -> fmt::Result {
-        f.write_str(match self {
-            PacketError::Short => "the datagram has fewer than 8 bytes",
-            PacketError::Many => "the datagram announces more than 12 commands",
-            PacketError::Length => "the datagram's length does not match its commands",
-            PacketError::Sum => "the datagram's sum is wrong",
-            PacketError::Unknown(code) => {
-                return write!(f, "the datagram was refused with the unknown code {code}");
-            }
-        })
+codes! {
+    /// Why bytes are not a packet: the first of these that holds.
+    PacketError {
+        /// Fewer than 8 bytes.
+        Short = ZMG_DROP_SHORT, "it has fewer than 8 bytes";
+        /// It announces more than twelve commands.
+        Many = ZMG_DROP_MANY, "it announces more than twelve commands";
+        /// Its length does not match the commands that it announces.
+        Length = ZMG_DROP_LENGTH, "its length does not match its commands";
+        /// Its sum is wrong.
+        Sum = ZMG_DROP_SUM, "its sum is wrong";
     }
 }
 
-impl Error for PacketError {}
-
-pub(crate) fn decoded(code: u32) -> Result<(), PacketError> {
-    match code {
-        0 => Ok(()),
-        1 => Err(PacketError::Short),
-        2 => Err(PacketError::Many),
-        3 => Err(PacketError::Length),
-        4 => Err(PacketError::Sum),
-        code => Err(PacketError::Unknown(code)),
-    }
-}
+impl std::error::Error for PacketError {}
 
 impl Packet {
-    /// Reads a datagram. Returns the first fault that the bytes have, if they are not one.
+    /// Reads a datagram.
     pub fn decode(bytes: &[u8]) -> Result<Packet, PacketError> {
-        let mut raw = raw::Packet::default();
-        // SAFETY: the slice is valid for its length, and the packet for the call.
-        let code = unsafe { raw::zmg_packet_decode(bytes.as_ptr(), bytes.len(), &mut raw) };
-        decoded(code)?;
-        Ok(Packet::of(&raw))
+        // SAFETY: zeros are a packet.
+        let mut raw: sys::zmg_packet = unsafe { std::mem::zeroed() };
+        // SAFETY: the pointers are of live values, and the length is that of the bytes.
+        match unsafe { sys::zmg_packet_decode(bytes.as_ptr(), bytes.len(), &mut raw) } {
+            0 => Ok(Packet::of(&raw)),
+            code => Err(PacketError::of(code)),
+        }
     }
 
-    /// Returns the bytes of the datagram, at most 104; None if `flags` is above 15, or if there are more than
-    /// 12 commands.
+    /// Returns the bytes of the datagram, at most 104; None if `flags` is above 15, or if there are more than 12
+    /// commands.
+    #[must_use]
     pub fn encode(&self) -> Option<Vec<u8>> {
-        if self.commands.len() > 12 {
-            return None;
-        }
-        let mut raw = raw::Packet {
-            flags: self.flags,
-            ask: self.ask,
-            start: self.start,
-            player: self.player,
-            count: self.commands.len() as u8,
-            ..raw::Packet::default()
-        };
-        for (place, command) in raw.commands.iter_mut().zip(&self.commands) {
-            *place = command.raw();
-        }
-        let mut bytes = vec![0; 104];
-        // SAFETY: the packet is valid for the call, and the vector for its length.
-        let length = unsafe { raw::zmg_packet_encode(&raw, bytes.as_mut_ptr(), bytes.len()) };
+        let raw = self.raw()?;
+        let mut bytes = vec![0; crate::parts::PACKET_SIZE];
+        // SAFETY: the pointers are of live values, and the room is that of the vector.
+        let length = unsafe { sys::zmg_packet_encode(&raw, bytes.as_mut_ptr(), bytes.len()) };
         bytes.truncate(length);
         (length > 0).then_some(bytes)
     }
 
-    fn of(raw: &raw::Packet) -> Packet {
+    /// None if there are too many commands.
+    fn raw(&self) -> Option<sys::zmg_packet> {
+        // SAFETY: zeros are a packet.
+        let mut raw: sys::zmg_packet = unsafe { std::mem::zeroed() };
+        raw.flags = self.flags;
+        raw.ask = self.ask;
+        raw.start = self.start;
+        raw.player = self.player;
+        raw.count = self.commands.len().try_into().ok()?;
+        let places = raw.commands.get_mut(..self.commands.len())?;
+        for (place, command) in places.iter_mut().zip(&self.commands) {
+            place.turn = command.turn;
+            place.mark = command.mark;
+            place.forward = command.forward;
+            place.side = command.side;
+            place.chat = command.chat;
+            place.buttons = command.buttons;
+        }
+        Some(raw)
+    }
+
+    fn of(raw: &sys::zmg_packet) -> Packet {
+        let sent = |command: &sys::zmg_sent_command| SentCommand {
+            turn: command.turn,
+            mark: command.mark,
+            forward: command.forward,
+            side: command.side,
+            chat: command.chat,
+            buttons: command.buttons,
+        };
         Packet {
             flags: raw.flags,
             ask: raw.ask,
             start: raw.start,
             player: raw.player,
-            commands: raw
-                .commands
+            commands: raw.commands[..usize::from(raw.count).min(raw.commands.len())]
                 .iter()
-                .take(usize::from(raw.count))
-                .map(Command::of)
+                .map(sent)
                 .collect(),
-        }
-    }
-}
-
-impl Command {
-    pub(crate) fn of(raw: &raw::Command) -> Command {
-        Command {
-            forward: raw.forward,
-            side: raw.side,
-            turn: raw.turn,
-            mark: raw.mark,
-            chat: raw.chat,
-            buttons: raw.buttons,
-        }
-    }
-
-    pub(crate) fn raw(&self) -> raw::Command {
-        raw::Command {
-            turn: self.turn,
-            mark: self.mark,
-            forward: self.forward,
-            side: self.side,
-            chat: self.chat,
-            buttons: self.buttons,
         }
     }
 }

@@ -1,33 +1,148 @@
-//! What the calls take and return.
+//! Keys, names, addresses, settings, commands and rows.
 
-use crate::raw;
+use crate::status::{check, Error};
+use std::ffi::c_char;
+use std::fmt;
+use std::net::{IpAddr, Ipv6Addr, SocketAddr};
+use std::str::FromStr;
+use zirmegat_sys as sys;
 
-/// The choice of game, which is player 0's. `skill`: 0 to 4, 0 the easiest. `deathmatch`: 0 for cooperative
-/// play, 1, or 2 for deathmatch 2.0. `episode`: 1 to 3. `map`: 1 to 32. Monsters are never fast.
-#[derive(Clone, Copy, Debug, Default, PartialEq, Eq)]
-#[allow(missing_docs)]
+/// 32 secret bytes that those share who may join a game. All zeros are refused. Its text is that of `netgame key`: 64
+/// hexadecimal digits and a line end.
+#[derive(Clone, Copy, PartialEq, Eq)]
+pub struct Key(pub [u8; 32]);
+
+impl Key {
+    /// Reads a key's text, whose digits may be of either case: [`Error::Text`], or [`Error::Key`] of zeros.
+    pub fn from_text(text: &[u8]) -> Result<Key, Error> {
+        let mut key = sys::zmg_key { bytes: [0; 32] };
+        // SAFETY: the pointers are of live values, and the length is the text's own.
+        check(unsafe { sys::zmg_key_from_text(&mut key, text.as_ptr().cast(), text.len()) })?;
+        Ok(Key(key.bytes))
+    }
+
+    /// Returns the key's text, in lower case, with its line end.
+    #[must_use]
+    pub fn to_text(&self) -> String {
+        let mut text = [0u8; sys::ZMG_KEY_TEXT_SIZE];
+        // SAFETY: the pointers are of live values, and the text has its room.
+        unsafe { sys::zmg_key_to_text(&sys::zmg_key { bytes: self.0 }, text.as_mut_ptr().cast()) };
+        text.iter().map(|&letter| char::from(letter)).collect()
+    }
+}
+
+impl FromStr for Key {
+    type Err = Error;
+    fn from_str(text: &str) -> Result<Key, Error> {
+        Key::from_text(text.as_bytes())
+    }
+}
+
+impl fmt::Debug for Key {
+    fn fmt(&self, f: &mut fmt::Formatter<'_>) -> fmt::Result {
+        f.write_str("Key(..)")
+    }
+}
+
+/// Where a datagram comes from or goes to. The bytes are the caller's own, filled up with zeros: they are compared,
+/// handed to the other players by the host, and never read. All players pack them the same way. For UDP: the 16 bytes
+/// of an IPv6 address, or `::ffff:a.b.c.d` for one of IPv4, then the port, its high byte first.
+#[derive(Clone, Copy, Debug, Default, PartialEq, Eq, Hash)]
+pub struct Address(pub [u8; 32]);
+
+impl From<SocketAddr> for Address {
+    fn from(at: SocketAddr) -> Address {
+        let ip = match at.ip() {
+            IpAddr::V4(ip) => ip.to_ipv6_mapped(),
+            IpAddr::V6(ip) => ip,
+        };
+        let mut bytes = [0; 32];
+        bytes[..16].copy_from_slice(&ip.octets());
+        bytes[16..18].copy_from_slice(&at.port().to_be_bytes());
+        Address(bytes)
+    }
+}
+
+impl From<Address> for SocketAddr {
+    fn from(at: Address) -> SocketAddr {
+        let mut octets = [0; 16];
+        octets.copy_from_slice(&at.0[..16]);
+        SocketAddr::new(
+            Ipv6Addr::from(octets).to_canonical(),
+            u16::from_be_bytes([at.0[16], at.0[17]]),
+        )
+    }
+}
+
+/// What a player is called: UTF-8 of at most 16 bytes.
+#[derive(Clone, Copy, Debug, Default, PartialEq, Eq, Hash)]
+pub struct Name([u8; 16]);
+
+impl From<&str> for Name {
+    /// A longer name is cut off behind a whole character.
+    fn from(text: &str) -> Name {
+        let mut most = text.len().min(16);
+        while !text.is_char_boundary(most) {
+            most -= 1;
+        }
+        let mut bytes = [0; 16];
+        bytes[..most].copy_from_slice(&text.as_bytes()[..most]);
+        Name(bytes)
+    }
+}
+
+impl Name {
+    pub(crate) fn of(raw: sys::zmg_name) -> Name {
+        Name(raw.text.map(|letter| letter.to_ne_bytes()[0]))
+    }
+
+    pub(crate) fn raw(&self) -> sys::zmg_name {
+        sys::zmg_name {
+            text: self.0.map(|letter| c_char::from_ne_bytes([letter])),
+        }
+    }
+}
+
+impl fmt::Display for Name {
+    fn fmt(&self, f: &mut fmt::Formatter<'_>) -> fmt::Result {
+        let end = self.0.iter().position(|&b| b == 0).unwrap_or(16);
+        f.write_str(&String::from_utf8_lossy(&self.0[..end]))
+    }
+}
+
+/// The choice of game. Monsters are never fast.
+#[derive(Clone, Copy, Debug, PartialEq, Eq)]
 pub struct Settings {
+    /// 0 to 4, 0 the easiest.
     pub skill: u8,
+    /// 0 for cooperative play, 1, or 2 for deathmatch 2.0.
     pub deathmatch: u8,
+    /// Whether there are no monsters.
     pub no_monsters: bool,
+    /// Whether monsters come back.
     pub respawn: bool,
+    /// 1 to 3.
     pub episode: u8,
+    /// 1 to 32.
     pub map: u8,
 }
 
-impl Settings {
-    pub(crate) fn raw(self) -> raw::Settings {
-        raw::Settings {
-            skill: self.skill,
-            deathmatch: self.deathmatch,
-            no_monsters: u8::from(self.no_monsters),
-            respawn: u8::from(self.respawn),
-            episode: self.episode,
-            map: self.map,
+impl Default for Settings {
+    /// The first map at skill 2 in cooperative play.
+    fn default() -> Settings {
+        Settings {
+            skill: 2,
+            deathmatch: 0,
+            no_monsters: false,
+            respawn: false,
+            episode: 1,
+            map: 1,
         }
     }
+}
 
-    pub(crate) fn of(raw: raw::Settings) -> Settings {
+impl Settings {
+    pub(crate) fn of(raw: sys::zmg_settings) -> Settings {
         Settings {
             skill: raw.skill,
             deathmatch: raw.deathmatch,
@@ -38,384 +153,197 @@ impl Settings {
         }
     }
 
-    /// Returns what a game with these settings starts from.
-    pub fn start(&self) -> Start {
-        Start {
+    pub(crate) fn raw(self) -> sys::zmg_settings {
+        sys::zmg_settings {
             skill: self.skill,
+            deathmatch: self.deathmatch,
+            no_monsters: self.no_monsters.into(),
+            respawn: self.respawn.into(),
             episode: self.episode,
             map: self.map,
-            deathmatch: self.deathmatch,
-            respawn: u8::from(self.respawn),
-            fast: 0,
-            no_monsters: u8::from(self.no_monsters),
         }
     }
 }
 
-/// What a game starts from: seven bytes, as a demo's header has them.
-#[repr(C)]
+/// A tic command.
+#[derive(Clone, Copy, Debug, Default, PartialEq, Eq, Hash)]
+pub struct Command {
+    /// To the left, in 65,536ths of a full turn.
+    pub turn: i16,
+    /// In units of 2048 in a world of 16 fractional bits. -128 counts as -127, since -128 would end a demo.
+    pub forward: i8,
+    /// To the right, in the same units.
+    pub side: i8,
+    /// A letter of chat, which the library carries and does not read.
+    pub chat: u8,
+    /// Bit 0 is attack, bit 1 use, bit 2 a change to the weapon in bits 3 to 5; other players' commands may set any.
+    pub buttons: u8,
+}
+
+impl Command {
+    /// Returns the command that vanilla Doom makes of these keys. `hold` counts for how many commands a turn key was
+    /// down: 0 at first, and then as it was left.
+    pub fn from_keys(hold: &mut u8, keys: Keys) -> Command {
+        let mut raw = Command::default().raw();
+        // SAFETY: the pointers are of live values.
+        unsafe { sys::zmg_command_from_keys(hold, keys.0, &mut raw) };
+        Command::of(raw)
+    }
+
+    pub(crate) fn of(raw: sys::zmg_command) -> Command {
+        Command {
+            turn: raw.turn,
+            forward: raw.forward,
+            side: raw.side,
+            chat: raw.chat,
+            buttons: raw.buttons,
+        }
+    }
+
+    pub(crate) fn raw(self) -> sys::zmg_command {
+        sys::zmg_command {
+            turn: self.turn,
+            forward: self.forward,
+            side: self.side,
+            chat: self.chat,
+            buttons: self.buttons,
+        }
+    }
+}
+
+/// The keys that are down, a bit for each: `Keys(Keys::FORWARD.0 | Keys::SPEED.0)`. Bits from 18 on are ignored.
 #[derive(Clone, Copy, Debug, Default, PartialEq, Eq)]
-#[allow(missing_docs)]
-pub struct Start {
-    pub skill: u8,
-    pub episode: u8,
-    pub map: u8,
-    pub deathmatch: u8,
-    pub respawn: u8,
-    pub fast: u8,
-    pub no_monsters: u8,
-}
-
-/// The player of a node, and its game.
-#[derive(Clone, Copy, Debug, PartialEq, Eq)]
-pub struct Config {
-    /// How many players the game has: 2 to 4. The same for all players.
-    pub players: u8,
-    /// The number of this player: 0 to `players` - 1.
-    pub me: u8,
-    /// Whether each packet repeats the last command, which helps on lines that lose packets. The same for all
-    /// players. A link gains nothing by it: its datagrams repeat what is not acknowledged anyway.
-    pub extra: bool,
-    /// How many bytes the demo may have: 1,024 to 16,777,216. The same for all players. A tic takes 5 bytes
-    /// for each player, and the node ends at a tic of all players that does not fit: 1 MiB lasts 50 minutes
-    /// for two players, 25 for four. The memory for the demo is allocated when the node is made.
-    pub limit: u32,
-    /// The settings of player 0, who sends them to the others. Those of other players are not read, but that a
-    /// link reads its own whoever its player is: they are the same for all players.
-    pub settings: Settings,
-}
-
-impl Config {
-    /// Returns the configuration of player 0, with these settings, no `extra`, and a `limit` of 1 MiB.
-    pub fn key(players: u8, settings: Settings) -> Config {
-        Config {
-            players,
-            me: 0,
-            extra: false,
-            limit: 1 << 20,
-            settings,
-        }
-    }
-
-    /// Returns the configuration of another player, with no `extra` and a `limit` of 1 MiB, as for
-    /// [`key`](Config::key). `me` is 1 to `players` - 1.
-    pub fn other(players: u8, me: u8) -> Config {
-        Config {
-            players,
-            me,
-            extra: false,
-            limit: 1 << 20,
-            settings: Settings::default(),
-        }
-    }
-
-    /// Returns the configuration of a link's player, with these settings, which are those of all players, no
-    /// `extra`, and a `limit` of 1 MiB.
-    pub fn link(players: u8, me: u8, settings: Settings) -> Config {
-        Config {
-            me,
-            ..Config::key(players, settings)
-        }
-    }
-
-    pub(crate) fn raw(&self) -> raw::Config {
-        raw::Config {
-            limit: self.limit,
-            players: self.players,
-            me: self.me,
-            extra: u8::from(self.extra),
-            settings: self.settings.raw(),
-        }
-    }
-}
-
-/// The keys that are down.
-#[derive(Clone, Copy, Debug, Default, PartialEq, Eq)]
-pub struct Keys(
-    /// A bit for each key. Bits from 18 on are ignored.
-    pub u32,
-);
+pub struct Keys(pub u32);
 
 #[allow(missing_docs)]
 impl Keys {
-    pub const NONE: Keys = Keys(0);
-    pub const FORWARD: Keys = Keys(1);
-    pub const BACK: Keys = Keys(1 << 1);
-    pub const LEFT: Keys = Keys(1 << 2);
-    pub const RIGHT: Keys = Keys(1 << 3);
-    pub const STRAFE_LEFT: Keys = Keys(1 << 4);
-    pub const STRAFE_RIGHT: Keys = Keys(1 << 5);
-    pub const STRAFE: Keys = Keys(1 << 6);
-    pub const SPEED: Keys = Keys(1 << 7);
-    pub const ATTACK: Keys = Keys(1 << 8);
-    pub const USE: Keys = Keys(1 << 9);
+    pub const FORWARD: Keys = Keys(sys::ZMG_KEY_FORWARD);
+    pub const BACK: Keys = Keys(sys::ZMG_KEY_BACK);
+    pub const LEFT: Keys = Keys(sys::ZMG_KEY_LEFT);
+    pub const RIGHT: Keys = Keys(sys::ZMG_KEY_RIGHT);
+    pub const STRAFE_LEFT: Keys = Keys(sys::ZMG_KEY_STRAFE_LEFT);
+    pub const STRAFE_RIGHT: Keys = Keys(sys::ZMG_KEY_STRAFE_RIGHT);
+    pub const STRAFE: Keys = Keys(sys::ZMG_KEY_STRAFE);
+    pub const SPEED: Keys = Keys(sys::ZMG_KEY_SPEED);
+    pub const ATTACK: Keys = Keys(sys::ZMG_KEY_ATTACK);
+    pub const USE: Keys = Keys(sys::ZMG_KEY_USE);
 
-    /// Returns the key of a weapon, 1 to 8; no key for any other number.
-    pub const fn weapon(number: u8) -> Keys {
-        if number >= 1 && number <= 8 {
-            Keys(1 << (9 + number))
-        } else {
-            Keys::NONE
+    /// The key for a weapon, 1 to 8; none for another number.
+    #[must_use]
+    pub fn weapon(number: u32) -> Keys {
+        match number {
+            1..=8 => Keys(sys::ZMG_KEY_WEAPON(number)),
+            _ => Keys(0),
         }
     }
 }
 
 impl std::ops::BitOr for Keys {
     type Output = Keys;
-
     fn bitor(self, other: Keys) -> Keys {
         Keys(self.0 | other.0)
     }
 }
 
-/// A player's move in one tic.
+/// A tic that was run, by whose commands the world is stepped.
 #[derive(Clone, Copy, Debug, Default, PartialEq, Eq)]
-pub struct Move {
-    /// The move forward, in units of 2048 in a world of 16 fractional bits.
-    pub forward: i8,
-    /// The move to the right, in the same units.
-    pub side: i8,
-    /// The turn to the left, in 65,536ths of a full turn.
-    pub turn: i16,
-    /// Bit 0 is attack, bit 1 use, bit 2 a change to the weapon in bits 3 to 5, which is the number of
-    /// [`Keys::weapon`] minus 1. Other players' commands may set any bits.
-    pub buttons: u8,
+pub struct Row {
+    /// Counted from 0.
+    pub tic: u32,
+    /// The whole command of each player who has one in the tic.
+    pub commands: [Option<Command>; 4],
 }
 
-impl Move {
-    pub(crate) fn of(raw: raw::Move) -> Option<Move> {
-        (raw.present != 0).then_some(Move {
-            forward: raw.forward,
-            side: raw.side,
-            turn: raw.turn,
-            buttons: raw.buttons,
-        })
+impl Row {
+    pub(crate) fn of(raw: &sys::zmg_row) -> Row {
+        Row {
+            tic: raw.tic,
+            commands: std::array::from_fn(|p| {
+                (raw.present[p] != 0).then(|| Command::of(raw.commands[p]))
+            }),
+        }
     }
 }
 
-/// The window of [`Lockstep::new`](crate::Lockstep::new): how many commands of the node's own player may be
-/// waiting to be run.
-pub const MOST_AHEAD: u8 = 5;
-
-/// The widest window of [`Lockstep::within`](crate::Lockstep::within).
-pub const WIDEST_AHEAD: u8 = 12;
-
-/// What `build` and `give` return.
+/// What came of a run.
 #[derive(Clone, Copy, Debug, PartialEq, Eq)]
 #[non_exhaustive]
-pub enum Made {
-    /// The command of this tic was made.
-    Made(u32),
-    /// As many commands are waiting to be run as the window allows.
-    Full,
-    /// The game has not started, or the node has ended.
+pub enum Run {
+    /// There is no game here, or not any more.
     NotPlaying,
-    /// A code that this crate has no name for. No command was made.
-    Unknown(u32),
-}
-
-/// Why a datagram was dropped. It changed nothing.
-#[derive(Clone, Copy, Debug, PartialEq, Eq)]
-#[non_exhaustive]
-pub enum Dropped {
-    /// It has fewer than 8 bytes.
-    Short,
-    /// It announces more than 12 commands.
-    Many,
-    /// Its length does not match the commands that it announces.
-    Length,
-    /// Its sum is wrong.
-    Sum,
-    /// `from` is not another player of the game, or is not the player that the datagram names.
-    Stranger,
-    /// It has settings that are not from player 0, or that come once the game runs.
-    OutOfPlace,
-    /// The sender plays another version.
-    Version,
-    /// Its settings are out of range.
-    Range,
-    /// It is a KILL packet, which no node obeys.
-    Kill,
-    /// Its start is a tic below 0.
-    Tic,
-    /// It has a command that would end a demo.
-    Command,
-    /// It lies more tics ahead than the node keeps commands.
-    Overrun,
-    /// The game has not started here, or this node has ended.
-    NotPlaying,
-    /// It contradicts the sender's end.
-    End,
-    /// A code that this crate has no name for.
-    Unknown(u32),
-}
-
-/// What became of a datagram.
-#[derive(Clone, Copy, Debug, PartialEq, Eq)]
-#[non_exhaustive]
-pub enum Heard {
-    /// The game starts, and the world begins.
-    Started,
-    /// This many commands were new, and are kept.
-    Taken(u32),
-    /// No command was new.
-    Stale,
-    /// Commands before its first are missing, and are asked for. The sender may have left: see
-    /// [`end`](crate::Lockstep::end).
-    Gap,
-    /// The sender has left, and all its commands are here: see [`end`](crate::Lockstep::end).
-    Left,
-    /// At [`Phase::Gathering`]: the sender was heard, but not yet all others. Else this node has ended.
-    Noted,
-    /// It was dropped.
-    Dropped(Dropped),
-    /// A code that this crate has no name for.
-    Unknown(u32),
-}
-
-/// What `run` returns.
-#[derive(Clone, Copy, Debug, PartialEq, Eq)]
-#[non_exhaustive]
-pub enum Ran {
-    /// This tic was run.
-    Ran(u32),
-    /// The command of this player is missing; if several players' are, it is the lowest player.
+    /// This tic was run: step the world by it.
+    Ran(Row),
+    /// The command of this player is missing, the lowest such player.
     Waiting(u8),
-    /// This call ended the node with [`Cause::Full`].
+    /// The demo is full. This run ended the game here.
     DemoFull,
-    /// This call ended the node. The command of `player` for the next tic carries the mark `was` instead of
-    /// `should`: the worlds have differed since twelve tics before, or earlier, or a datagram came in that is
-    /// not as it is owed.
-    #[allow(missing_docs)]
-    Inconsistent { player: u8, was: i16, should: i16 },
-    /// The game has not started, or the node had ended before.
-    NotPlaying,
-    /// A code that this crate has no name for. There is no row.
-    Unknown(u32),
-}
-
-/// Why a node ended.
-#[derive(Clone, Copy, Debug, PartialEq, Eq)]
-#[non_exhaustive]
-pub enum Cause {
-    /// The caller called `quit`.
-    Quit,
-    /// The demo had no room for the next tic; or 2,097,150 tics were run in a game that somebody has left.
-    Full,
-    /// Worlds differ, as in [`Ran::Inconsistent`].
-    #[allow(missing_docs)]
-    Inconsistent { player: u8, was: i16, should: i16 },
+    /// The worlds differ, since twelve tics before or longer. This run ended the game here.
+    Inconsistent {
+        /// Whose mark differs.
+        player: u8,
+        /// Its mark.
+        was: i16,
+        /// The mark here.
+        should: i16,
+    },
+    /// No tic is run before the next tick.
+    Held,
     /// A code that this crate has no name for.
     Unknown(u32),
 }
 
-/// The phase of a node.
-#[derive(Clone, Copy, Debug, PartialEq, Eq)]
-#[non_exhaustive]
-pub enum Phase {
-    /// It waits for player 0's settings.
-    Listening,
-    /// It is player 0's, and waits to hear from every other.
-    Gathering,
-    /// The game runs.
-    Playing,
-    /// It has ended. If it has played, it still gives packets, and still takes datagrams.
-    Ended(Cause),
-    /// A code that this crate has no name for.
-    Unknown(u32),
-}
-
-/// The full tic numbers of a packet, which itself carries only their low bytes.
-#[derive(Clone, Copy, Debug, PartialEq, Eq)]
-pub struct Aim {
-    /// As in [`Packet::flags`](crate::Packet::flags).
-    pub flags: u8,
-    /// The first tic whose command is asked for again, if any; as long as all callers do what they owe, at
-    /// most the window before `start`.
-    pub ask: Option<u32>,
-    /// The tic of the first command; 0 for set-up.
-    pub start: u32,
-    /// How many commands there are.
-    pub count: u8,
-}
-
-pub(crate) fn number(raw: raw::Number) -> Option<u32> {
-    (raw.known != 0).then_some(raw.value)
-}
-
-pub(crate) fn made(raw: raw::Coded) -> Made {
-    match raw.code {
-        0 => Made::Made(raw.number),
-        1 => Made::Full,
-        2 => Made::NotPlaying,
-        code => Made::Unknown(code),
+impl Run {
+    pub(crate) fn of(code: sys::zmg_run, raw: &sys::zmg_row) -> Run {
+        match code {
+            sys::ZMG_RUN_NOT_PLAYING => Run::NotPlaying,
+            sys::ZMG_RUN_RAN => Run::Ran(Row::of(raw)),
+            sys::ZMG_RUN_WAITING => Run::Waiting(raw.player),
+            sys::ZMG_RUN_DEMO_FULL => Run::DemoFull,
+            sys::ZMG_RUN_INCONSISTENT => Run::Inconsistent {
+                player: raw.player,
+                was: raw.was,
+                should: raw.should,
+            },
+            sys::ZMG_RUN_HELD => Run::Held,
+            code => Run::Unknown(code),
+        }
     }
 }
 
-fn dropped(number: u32) -> Dropped {
-    match number {
-        1 => Dropped::Short,
-        2 => Dropped::Many,
-        3 => Dropped::Length,
-        4 => Dropped::Sum,
-        5 => Dropped::Stranger,
-        6 => Dropped::OutOfPlace,
-        7 => Dropped::Version,
-        8 => Dropped::Range,
-        9 => Dropped::Kill,
-        10 => Dropped::Tic,
-        11 => Dropped::Command,
-        12 => Dropped::Overrun,
-        13 => Dropped::NotPlaying,
-        14 => Dropped::End,
-        code => Dropped::Unknown(code),
+/// What is known of the line to another player. Counts stop at the largest number.
+#[derive(Clone, Copy, Debug, Default, PartialEq, Eq)]
+pub struct Line {
+    /// How many of its datagrams came, copies and too old ones not counted.
+    pub came: u32,
+    /// How many of the numbers between the first that came and the newest did not come within 64.
+    pub lost: u32,
+    /// How many copies came, less than 64 behind the newest.
+    pub repeated: u32,
+    /// How many came 64 or more behind the newest.
+    pub too_old: u32,
+    /// How many of the last datagrams to it did not come there, or came after newer ones.
+    pub missing_there: u8,
+    /// How many commands this player was ahead of it, at this player's last tick.
+    pub lead: i8,
+    /// How many it was ahead of this player, at its own last tick.
+    pub lead_there: i8,
+}
+
+impl Line {
+    pub(crate) fn of(raw: sys::zmg_line) -> Line {
+        Line {
+            came: raw.came,
+            lost: raw.lost,
+            repeated: raw.repeated,
+            too_old: raw.too_old,
+            missing_there: raw.missing_there,
+            lead: raw.lead,
+            lead_there: raw.lead_there,
+        }
     }
 }
 
-pub(crate) fn heard(raw: raw::Coded) -> Heard {
-    match raw.code {
-        0 => Heard::Started,
-        1 => Heard::Taken(raw.number),
-        2 => Heard::Stale,
-        3 => Heard::Gap,
-        4 => Heard::Left,
-        5 => Heard::Noted,
-        6 => Heard::Dropped(dropped(raw.number)),
-        code => Heard::Unknown(code),
-    }
-}
-
-pub(crate) fn ran(raw: raw::Ran) -> Ran {
-    match raw.code {
-        0 => Ran::Ran(raw.tic),
-        1 => Ran::Waiting(raw.player),
-        2 => Ran::DemoFull,
-        3 => Ran::Inconsistent {
-            player: raw.player,
-            was: raw.was,
-            should: raw.should,
-        },
-        4 => Ran::NotPlaying,
-        code => Ran::Unknown(code),
-    }
-}
-
-pub(crate) fn phase(raw: raw::Phase) -> Phase {
-    let cause = match raw.cause {
-        1 => Cause::Quit,
-        2 => Cause::Full,
-        3 => Cause::Inconsistent {
-            player: raw.player,
-            was: raw.was,
-            should: raw.should,
-        },
-        code => Cause::Unknown(code),
-    };
-    match raw.code {
-        1 => Phase::Listening,
-        2 => Phase::Gathering,
-        3 => Phase::Playing,
-        4 => Phase::Ended(cause),
-        code => Phase::Unknown(code),
-    }
+/// A tic that is known, if it is.
+pub(crate) fn end(raw: u32) -> Option<u32> {
+    (raw != sys::ZMG_NO_END).then_some(raw)
 }

@@ -5,14 +5,12 @@ use Rattle.std.proofs.Math.Nat.{mul-div_cancel_left, lt_of_mul-lt-mul_left}
 use Rattle.std.proofs.lemmas.List.FromFn.{length-map-range_with_len}
 use Rattle.dn_world.specs.Physics.{Physics}
 use Rattle.dn_demo.specs.{Layout.{Layout, command_size}, Places.{start_in, seats_in, place, row_in}, Reading.{HasHeader, recording, IsReadAs}, Feeding.{Feeding, feeding_of, IsKept, Takes, IsUpToMarker, Shows, ShowsRows, TakesFront, state_by, IsFedAs, EndsAs}, Text.{player_count, marker}}
-use Rattle.dn_demo.specs.{declared.demo.DemoFault.TheVariants.NoMarker}
-use Rattle.dn_demo.specs.declared.fed.Fed.{Fed}
+use Rattle.dn_demo.specs.declared.{demo.DemoFault.TheVariants.NoMarker, fed.Fed.Fed}
 use Rattle.dn_demo.proofs.{Fronts.{header_kept, header_of_kept, kept_longer, start_in-take, seats_kept}, RowsKept.{of_unmarked, begun, unmarked, passed}, OneReading.same_layout, Text.place_order}
 
 -- behind a whole header that stays, bytes are shown where their rows are
 pub shown_more : {S W : Type 0} (state : W → S) (physics : Physics S) (bytes more : List ℕ) (f g : Feeding W)
-    → 13 ≤ f.taken
-    → Shows state physics bytes f → g.taken ≡ f.taken + length more → g.header ≡ f.header
+    → 13 ≤ f.taken → Shows state physics bytes f → g.taken ≡ f.taken + length more → g.header ≡ f.header
     → ((layout : Layout) → HasHeader layout bytes → ShowsRows state physics layout bytes f
     → ShowsRows state physics layout (bytes ++ more) g)
     → Shows state physics (bytes ++ more) g
@@ -32,8 +30,7 @@ shown_in state physics layout bytes more f g h long shown taken header rows =
 
 -- the commands before the marker make the tics that the world was stepped by, and the rest of them is cut
 pub fed_as : {S W : Type 0} (state : W → S) (physics : Physics S) (layout : Layout) (bytes : List ℕ)
-    (f : Feeding W) → HasHeader layout bytes → f.marked ≡ true
-    → ShowsRows state physics layout bytes f
+    (f : Feeding W) → HasHeader layout bytes → f.marked ≡ true → ShowsRows state physics layout bytes f
     → (commands : ℕ) × IsReadAs bytes (Ok (recording layout bytes commands f.after))
     × (commands / player_count (seats_in bytes) ≡ f.tics)
     × (length f.row / command_size layout ≡ commands % player_count (seats_in bytes))
@@ -77,17 +74,15 @@ pub takes_more : {S W : Type 0} (state : W → S) (physics : Physics S) (f g h :
 takes_more state physics f g h xs ys one other bytes shown = grind (arith, append_assoc)
 
 -- a front, and one behind it
-pub front_more : {S W : Type 0} (state : W → S) (physics : Physics S) (f g h : Feeding W)
-    (piece mid rest : List ℕ)
+pub front_more : {S W : Type 0} (state : W → S) (physics : Physics S) (f g h : Feeding W) (piece mid rest : List ℕ)
     → TakesFront state physics f piece mid g → TakesFront state physics g mid rest h
     → TakesFront state physics f piece rest h
-front_more state physics f g h piece mid rest one other =
-    record {
-      front = one.front ++ other.front;
-      split = grind (arith, one.split, other.split, append_assoc);
-      count = omega (arith, one.count, other.count, length-append one.front other.front);
-      shown = takes_more state physics f g h one.front other.front one.shown other.shown;
-    }
+front_more state physics f g h piece mid rest one other = record {
+  front = one.front ++ other.front;
+  split = grind (arith, one.split, other.split, append_assoc);
+  count = omega (arith, one.count, other.count, length-append one.front other.front);
+  shown = takes_more state physics f g h one.front other.front one.shown other.shown;
+}
 
 -- What a feed has kept behind a byte of its header, or behind bytes that nothing is read from, by its fields.
 
@@ -103,29 +98,24 @@ module _ {S W : Type 0} (state : W → S) (physics : Physics S) {taken tics afte
   old = feeding_of taken header tics kept row marked after world
 
   -- behind the marker
-  pub pass_marked : (piece : List ℕ) → marked ≡ true → 13 ≤ taken
-      → Takes state physics f piece
+  pub pass_marked : (piece : List ℕ) → marked ≡ true → 13 ≤ taken → Takes state physics f piece
       (feeding_of (taken + length piece) header tics kept row marked (after + length piece) world)
   pass_marked piece was long =
       let new = feeding_of (taken + length piece) header tics kept row marked (after + length piece) world in
       subst (λ (h : Feeding W). Takes state physics h piece new) view (λ bytes shown.
-      shown_more state physics bytes piece old new long shown refl
-      (take_past taken (length piece) header size long)
+      shown_more state physics bytes piece old new long shown refl (take_past taken (length piece) header size long)
       (λ layout h rows. passed state physics layout bytes piece old new.taken new.header was rows))
 
   -- behind a header that is refused
   pub pass_unread : (piece : List ℕ)
-      → (f.marked ≡ false → (layout : Layout) → HasHeader layout f.header → ⊥) → marked ≡ false
-      → 13 ≤ taken
-      → Takes state physics f piece
-      (feeding_of (taken + length piece) header tics kept row marked after world)
+      → (f.marked ≡ false → (layout : Layout) → HasHeader layout f.header → ⊥) → marked ≡ false → 13 ≤ taken
+      → Takes state physics f piece (feeding_of (taken + length piece) header tics kept row marked after world)
   pass_unread piece unread free long =
       let new = feeding_of (taken + length piece) header tics kept row marked after world in
       let none = subst (λ (h : Feeding W). h.marked ≡ false → (layout : Layout)
       → HasHeader layout h.header → ⊥) (sym view) unread free in
       subst (λ (h : Feeding W). Takes state physics h piece new) view (λ bytes shown.
-      shown_more state physics bytes piece old new long shown refl
-      (take_past taken (length piece) header size long)
+      shown_more state physics bytes piece old new long shown refl (take_past taken (length piece) header size long)
       (λ layout h rows. absurd (none layout (header_kept layout bytes old.header shown.header h))))
 
   -- in the header
@@ -143,8 +133,7 @@ module _ {S W : Type 0} (state : W → S) (physics : Physics S) {taken tics afte
       let before : take taken header ≡ bytes =
       shown.header ∙ take_all 13 bytes (omega (arith, shown.taken, below)) in
       let so_far : take (taken + 1) own ≡ all =
-      take_more_set header taken byte (omega (arith, size, below))
-      ∙ ap (λ (t : List ℕ). t ++ byte ∷ []) before in
+      take_more_set header taken byte (omega (arith, size, below)) ∙ ap (λ (t : List ℕ). t ++ byte ∷ []) before in
       let count : length all ≡ taken + 1 = omega (arith, length-append bytes (byte ∷ []), shown.taken) in
       record {
         taken = sym count;
@@ -176,8 +165,7 @@ first_byte (x ∷ piece) some = refl
 
 -- at the marker: with what the bytes are read as
 ended : {S W : Type 0} (state : W → S) (physics : Physics S) (layout : Layout) (bytes : List ℕ)
-    (f : Feeding W) (fed : Fed W)
-    → HasHeader layout f.header → f.marked ≡ true → fed.version ≡ get_or f.header 0 0
+    (f : Feeding W) (fed : Fed W) → HasHeader layout f.header → f.marked ≡ true → fed.version ≡ get_or f.header 0 0
     → fed.start ≡ start_in f.header → fed.view ≡ get_or f.header 8 0
     → fed.present ≡ seats_in f.header → fed.tics ≡ f.tics → fed.cut ≡ length f.row / command_size layout
     → fed.after ≡ f.after
@@ -189,11 +177,9 @@ ended state physics layout bytes f fed h marked version start view present tics 
       recording layout bytes is.0 f.after,
       is.1,
       record {
-        version = version ∙ ap (λ (t : List ℕ). get_or t 0 0) shown.header
-            ∙ get_or-take 13 bytes 0 0 (omega arith);
+        version = version ∙ ap (λ (t : List ℕ). get_or t 0 0) shown.header ∙ get_or-take 13 bytes 0 0 (omega arith);
         start = start ∙ ap start_in shown.header ∙ start_in-take 13 bytes (omega arith);
-        view = view ∙ ap (λ (t : List ℕ). get_or t 8 0) shown.header
-            ∙ get_or-take 13 bytes 8 0 (omega arith);
+        view = view ∙ ap (λ (t : List ℕ). get_or t 8 0) shown.header ∙ get_or-take 13 bytes 8 0 (omega arith);
         present = present ∙ seats_kept bytes f.header shown.header;
         tics = tics ∙ sym is.2 ∙ sym (length-map-range_with_len (row_in layout bytes) 0 _);
         cut = cut ∙ is.3;
@@ -230,8 +216,7 @@ module _ {S W : Type 0} (state : W → S) (physics : Physics S) {taken tics afte
 
   pub ends_marked : (fed : Fed W) → marked ≡ true → kept ≤ length row → fed.version ≡ get_or header 0 0
       → fed.start ≡ start_in header → fed.view ≡ get_or header 8 0 → fed.present ≡ seats_in header
-      → fed.tics ≡ tics → fed.cut ≡ kept / command_size layout → fed.after ≡ after
-      → state fed.world ≡ state world
+      → fed.tics ≡ tics → fed.cut ≡ kept / command_size layout → fed.after ≡ after → state fed.world ≡ state world
       → EndsAs state physics f (Ok fed)
   ends_marked fed was fits version start seen present count cut behind world_is =
       subst (λ (h : Feeding W). EndsAs state physics h (Ok fed)) view (λ bytes shown.

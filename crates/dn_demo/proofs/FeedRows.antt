@@ -71,8 +71,7 @@ module _ {S W : Type 0} (state : W → S) (physics : Physics S) {taken tics afte
     seats_of bytes shown = ap seats_in (sym all) ∙ seats_kept bytes (take taken header) shown.header
 
     -- more bytes are taken where their rows are shown
-    shown_on : (more : List ℕ) (g : Feeding W) → g.taken ≡ taken + length more
-        → g.header ≡ take taken header
+    shown_on : (more : List ℕ) (g : Feeding W) → g.taken ≡ taken + length more → g.header ≡ take taken header
         → ((bytes : List ℕ) → seats_in header ≡ seats_in bytes
         → Unmarked state physics layout bytes after tics (take kept row) world
         → ShowsRows state physics layout (bytes ++ more) g)
@@ -84,8 +83,7 @@ module _ {S W : Type 0} (state : W → S) (physics : Physics S) {taken tics afte
 
     module _ (byte : ℕ) where
       -- a marker at a command's place
-      pub marker_taken : (byte ≡ marker) × (kept % command_size layout ≡ 0)
-          → Takes state physics f (byte ∷ [])
+      pub marker_taken : (byte ≡ marker) × (kept % command_size layout ≡ 0) → Takes state physics f (byte ∷ [])
           (feeding_of (taken + 1) header tics kept row true after world)
       marker_taken at =
           let new = feeding_of (taken + 1) header tics kept row true after world in
@@ -176,8 +174,7 @@ module _ {S W : Type 0} (state : W → S) (physics : Physics S) {taken tics afte
         let many = row_size layout present * steps.tics in
         let len = length-take-le many piece steps.within in
         let took : came ≡ many = omega (arith, ap length steps.left, length-drop many piece, steps.within) in
-        let some : 0 < row_size layout present =
-        omega (arith, ap (row_size layout) seats, unfinished) in
+        let some : 0 < row_size layout present = omega (arith, ap (row_size layout) seats, unfinished) in
         let count : came / (size * players) ≡ steps.tics =
         (λ i. took i / (size_is i * players_are i)) ∙ mul-div_cancel_left steps.tics some in
         let zero : kept ≡ 0 = omega (arith, none) in
@@ -185,8 +182,7 @@ module _ {S W : Type 0} (state : W → S) (physics : Physics S) {taken tics afte
         let g = feeding_of (taken + came) header (tics + came / (size * players)) kept row marked after new in
         record {
           front = take many piece;
-          split = sym (take-append-drop many piece)
-              ∙ ap (λ (t : List ℕ). take many piece ++ t) (sym steps.left);
+          split = sym (take-append-drop many piece) ∙ ap (λ (t : List ℕ). take many piece ++ t) (sym steps.left);
           count = omega (arith, took, len, ap (λ (h : Feeding W). h.taken) view);
           shown = shown_on (take many piece) g (omega (arith, took, len)) (same_header came) (λ bytes same u.
               of_unmarked state physics layout (bytes ++ take many piece) g free

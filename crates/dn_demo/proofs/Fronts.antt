@@ -1,9 +1,9 @@
 -- What a front of a demo's bytes tells, and what a demo keeps before its marker.
 use Rattle.std.proofs.Common.{◌≡◌, ◌≤◌, ℕ, List, ◌++◌, length, take, sym, ap, ◌∙◌, arith, ◌<◌, zero, suc, ◌+◌, ◌-◌, ◌*◌, ◌/◌, Bool, true, false, [], ◌∷◌, map, drop, get_or, Some, None, refl, fold, slice_get, Option}
 use Rattle.std.proofs.lemmas.List.{get_or-take, length-take, length-take-le, take-append-le, drop-take}
-use Rattle.std.specs.List.{range_with_len}
 use Rattle.std.proofs.Math.Nat.{mul-div-le, mul-le-mul_left}
 use Rattle.std.proofs.lemmas.{List.FromFn.{length-map-range_with_len, get_or-map-range_with_len}, Option.{slice_get-get_or, slice_get_within, get_or_from_slice_get}, List.Sums.fold_more}
+use Rattle.std.specs.List.{range_with_len}
 use Rattle.dn_tic.specs.declared.command.Move.{Move}
 use Rattle.dn_demo.specs.{Layout.{Layout, layout_of_version, command_size, tell}, Text.player_count, Places.{layout_in, seats_in, start_in, place, move_at, moves_from, row_in, commands_in}, Reading.{HasHeader, Recording, recording}}
 use Rattle.dn_demo.proofs.Text.{place_below}
@@ -40,8 +40,7 @@ move_at-take layout k bytes command below =
     let more = place layout k - (place layout command + n) in
     let rest = ap (λ m. drop (place layout command) (take m bytes)) (sym fits)
     ∙ drop-take (place layout command) (n + more) bytes in
-    ap (λ t. tell layout (take n t)) rest ∙ ap (tell layout)
-    (take_take n more (drop (place layout command) bytes))
+    ap (λ t. tell layout (take n t)) rest ∙ ap (tell layout) (take_take n more (drop (place layout command) bytes))
 
 pub moves_from-take : (layout : Layout) (k : ℕ) (bytes : List ℕ) (seats : List Bool) (command : ℕ)
     → command + player_count seats ≤ k
@@ -51,8 +50,7 @@ moves_from-take layout k bytes (true ∷ seats) command fits = grind (arith, mov
 moves_from-take layout k bytes (false ∷ seats) command fits = grind (arith, moves_from-take layout k bytes seats command fits, None)
 
 -- and of the rows
-pub row_in-take : (layout : Layout) (k : ℕ) (bytes : List ℕ) (tic : ℕ)
-    → tic < k / player_count (seats_in bytes)
+pub row_in-take : (layout : Layout) (k : ℕ) (bytes : List ℕ) (tic : ℕ) → tic < k / player_count (seats_in bytes)
     → row_in layout (take (place layout k) bytes) tic ≡ row_in layout bytes tic
 row_in-take layout k bytes tic below =
     let seats = seats_in-take (place layout k) bytes (omega arith) in
@@ -144,15 +142,13 @@ row_kept layout bytes kept after demo seats players tic whole shown e f g below 
     let fits : place layout (player_count (seats_in bytes) * tic + player_count (seats_in bytes))
     ≤ length bytes = omega arith in
     let same =
-    sym (get-map-range (row_in layout bytes) (commands_in layout bytes / player_count (seats_in bytes))
-    tic within)
+    sym (get-map-range (row_in layout bytes) (commands_in layout bytes / player_count (seats_in bytes)) tic within)
     ∙ ap (λ (d : Recording). slice_get d.rows tic) shown in
     (rw (players_are, present, e) fits, rw (players_are, present, e) same)
 
 -- a world that is stepped by one more row
 pub fold-row : {S A : Type 0} (step : S → A → S) (begun before after : S) (rows : List A) (tic : ℕ) (row : A)
-    → Some row ≡ slice_get rows tic
-    → before ≡ fold step begun (take tic rows) → after ≡ step before row
+    → Some row ≡ slice_get rows tic → before ≡ fold step begun (take tic rows) → after ≡ step before row
     → after ≡ fold step begun (take (tic + 1) rows)
 fold-row step begun before after rows tic row e so_far stepped =
     let below = slice_get_within rows tic row (sym e) in

@@ -6,25 +6,21 @@ use Rattle.std.proofs.Math.Nat.{mul-div_cancel_left}
 use Rattle.dn_demo.specs.{Layout.{Layout, command_size}, Text.{marker, player_count}, Places.{place, HasNoMarker, EndsBehind, layout_in, seats_in, commands_in, row_in}}
 use Rattle.dn_demo.specs.Reading.{Recording, recording, HasHeader, IsReadAs, IsSameButMemory}
 use Rattle.dn_demo.specs.{declared.demo.DemoFault.DemoFault, declared.demo.DemoFault.TheVariants.{Short, Version, NoPlayers, NoMarker, Memory}}
-use Rattle.dn_demo.proofs.Text.{place_below}
-use Rattle.dn_demo.proofs.Fronts.{start_in-take, seats_in-take, row_in-take, map-agree}
+use Rattle.dn_demo.proofs.{Text.place_below, Fronts.{start_in-take, seats_in-take, row_in-take, map-agree}}
 
 -- The search for the marker, from one command's place to the next.
 
 -- the first byte of the rest stands at the command's place
-byte_at : (layout : Layout) (bytes rest : List ℕ) (k : ℕ) → rest ≡ drop (place layout k) bytes
-    → 0 < length rest
+byte_at : (layout : Layout) (bytes rest : List ℕ) (k : ℕ) → rest ≡ drop (place layout k) bytes → 0 < length rest
     → slice_get bytes (place layout k) ≡ Some (get_or rest 0 0)
 byte_at layout bytes rest k e some = grind (arith, length-drop, get_or-drop, slice_get-get_or)
 
-pub found : (layout : Layout) (bytes rest : List ℕ) (k : ℕ) → rest ≡ drop (place layout k) bytes
-    → 0 < length rest
+pub found : (layout : Layout) (bytes rest : List ℕ) (k : ℕ) → rest ≡ drop (place layout k) bytes → 0 < length rest
     → HasNoMarker layout bytes k → get_or rest 0 0 ≡ marker → EndsBehind layout bytes k
 found layout bytes rest k e some none is =
     record { marked = byte_at layout bytes rest k e some ∙ ap (λ x. Some x) is; first = none }
 
-pub passed : (layout : Layout) (bytes rest : List ℕ) (k : ℕ) → rest ≡ drop (place layout k) bytes
-    → 0 < length rest
+pub passed : (layout : Layout) (bytes rest : List ℕ) (k : ℕ) → rest ≡ drop (place layout k) bytes → 0 < length rest
     → HasNoMarker layout bytes k → get_or rest 0 0 ≢ marker → HasNoMarker layout bytes (k + 1)
 passed layout bytes rest k e some none not = grind (arith, slice_get, Some, byte_at, below_more)
 
@@ -34,8 +30,7 @@ pub next_rest : (layout : Layout) (bytes rest after : List ℕ) (k : ℕ) → re
 next_rest layout bytes rest after k e f = grind (arith, drop_min, drop-drop)
 
 -- past the end of the bytes there is no marker
-pub nowhere : (layout : Layout) (bytes rest : List ℕ) (k : ℕ) → rest ≡ drop (place layout k) bytes
-    → length rest ≡ 0
+pub nowhere : (layout : Layout) (bytes rest : List ℕ) (k : ℕ) → rest ≡ drop (place layout k) bytes → length rest ≡ 0
     → HasNoMarker layout bytes k → (command : ℕ) → slice_get bytes (place layout command) ≢ Some marker
 nowhere layout bytes rest k e empty none command here = grind (arith, slice_get_within, length-drop, cases_order, place_below)
 
@@ -71,8 +66,7 @@ recording-take layout k bytes after =
     }
 
 -- and in one layout
-pub same_layout : (bytes : List ℕ) (a b : Layout) → layout_in bytes ≡ Some a → layout_in bytes ≡ Some b
-    → a ≡ b
+pub same_layout : (bytes : List ℕ) (a b : Layout) → layout_in bytes ≡ Some a → layout_in bytes ≡ Some b → a ≡ b
 same_layout bytes a b p q = let both = sym p ∙ q in cc
 
 pub same_demo : (bytes : List ℕ) (d e : Recording) → IsReadAs bytes (Ok d) → IsReadAs bytes (Ok e) → d ≡ e
@@ -80,8 +74,7 @@ same_demo bytes d e p q = grind (arith, same_layout, one_end)
 
 -- what reads as a demo reads as nothing else, memory aside
 pub one_reading : (bytes : List ℕ) (d : Recording) → IsReadAs bytes (Ok d) → (r : Result Recording DemoFault)
-    → IsReadAs bytes r
-    → IsSameButMemory (Ok d) r
+    → IsReadAs bytes r → IsSameButMemory (Ok d) r
 one_reading bytes d p (Ok e) q = inl (ap (λ x. Ok x) (same_demo bytes d e p q))
 one_reading bytes d p (Err Short) q = absurd (omega (arith, p.1.whole))
 one_reading bytes d p (Err Version) q = absurd (let both = sym p.1.known ∙ q.1 in cc)
@@ -91,8 +84,7 @@ one_reading bytes d p (Err Memory) q = inr (inr refl)
 
 -- a demo that keeps these bytes
 pub read_of_front : (layout : Layout) (bytes front : List ℕ) (k after : ℕ) → HasHeader layout bytes
-    → EndsBehind layout bytes k
-    → front ≡ take (place layout k) bytes → after ≡ length bytes - place layout k - 1
+    → EndsBehind layout bytes k → front ≡ take (place layout k) bytes → after ≡ length bytes - place layout k - 1
     → IsReadAs bytes (Ok (recording layout front (commands_in layout front) after))
 read_of_front layout bytes front k after head behind e f =
     let inside = slice_get_within bytes (place layout k) marker behind.marked in

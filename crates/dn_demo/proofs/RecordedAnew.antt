@@ -1,8 +1,8 @@
 -- A demo that was read, recorded row by row.
 use Rattle.std.proofs.Common.{◌≡◌, ◌≢◌, ◌<◌, ◌≤◌, ℕ, zero, suc, ◌+◌, ◌*◌, ◌/◌, Bool, true, false, List, [], ◌∷◌, length, map, take, drop, get_or, slice_get, All, Some, None, Ok, IfSome, is_some, FitsSigned, refl, sym, subst, arith, w8, ◌-◌, ◌++◌, nat_le, Option, ap, ◌∙◌}
-use Rattle.std.specs.{Int.{w16}, List.range_with_len}
 use Rattle.std.proofs.lemmas.{Int.{ints, of_z-to_z}, Bool.{cases_lt, eq-eqb, ne_eqb, le-leb, leb-true}, List.{get_or-take, get_or-drop, get_or_past, length-take, take_more, length-map}, List.Elements.{All-nil, All-cons, All-get_or}, Option.{slice_get-get_or, slice_get_within, get_or_from_slice_get}}
 use Rattle.std.proofs.Math.Nat.{mul-div-le}
+use Rattle.std.specs.{Int.w16, List.range_with_len}
 use Rattle.dn_tic.specs.declared.command.Move.{Move}
 use Rattle.dn_setup.specs.{declared.settings.Start.Start, Settings.bit}
 use Rattle.dn_world.specs.Physics.{Physics}
@@ -35,19 +35,16 @@ long_turn : (bytes : List ℕ) → AreBytes bytes → FitsSigned w16 (long_tics.
 long_turn bytes fits = grind (arith, ints)
 
 turn_fits : (version : ℕ) (layout : Layout) → layout_of_version version ≡ Some layout → (bytes : List ℕ)
-    → AreBytes bytes
-    → FitsSigned w16 (layout.turn_told bytes)
+    → AreBytes bytes → FitsSigned w16 (layout.turn_told bytes)
 turn_fits version layout e bytes fits = grind (arith, eq-eqb, Some, FitsSigned, vanilla_turn, ne_eqb, long_turn, None)
 
 -- a move that a command tells
 move_fits : (version : ℕ) (layout : Layout) → layout_of_version version ≡ Some layout
-    → (bytes : List ℕ) (command : ℕ) → AreBytes bytes
-    → IsMove (move_at layout bytes command)
+    → (bytes : List ℕ) (command : ℕ) → AreBytes bytes → IsMove (move_at layout bytes command)
 move_fits version layout e bytes command fits = grind (arith, take_bytes, drop_bytes, ints, turn_fits)
 
 -- goes forward by no -128 where no marker stands
-no_stop : (layout : Layout) (bytes : List ℕ) (command : ℕ) → AreBytes bytes
-    → place layout command < length bytes
+no_stop : (layout : Layout) (bytes : List ℕ) (command : ℕ) → AreBytes bytes → place layout command < length bytes
     → slice_get bytes (place layout command) ≢ Some marker → IsRecordable (move_at layout bytes command)
 no_stop layout bytes command fits inside not is = grind (arith, get_or, get_or-take, get_or-drop, of_z-to_z, w8, slice_get-get_or, Some)
 
@@ -74,13 +71,12 @@ pub row_told : (layout : Layout) (bytes : List ℕ) (commands : ℕ) → AreByte
     → place layout commands ≤ length bytes → HasNoMarker layout bytes commands
     → (seats : List Bool) (command : ℕ) → command + player_count seats ≤ commands
     → IsRow seats (moves_from layout bytes seats command)
-row_told layout bytes commands fits whole none seats command room =
-    record {
-      seats = row_seats layout bytes seats command;
-      moves = row_moves IsRecordable layout bytes commands
-          (λ j below. let next = place_below layout j commands below in
-          no_stop layout bytes j fits (omega arith) (none j below)) seats command room;
-    }
+row_told layout bytes commands fits whole none seats command room = record {
+  seats = row_seats layout bytes seats command;
+  moves = row_moves IsRecordable layout bytes commands
+      (λ j below. let next = place_below layout j commands below in
+      no_stop layout bytes j fits (omega arith) (none j below)) seats command room;
+}
 
 -- a fact of all rows
 all_rows : {X : Type 0} (P : X → Type 0) (f : ℕ → X) (a n : ℕ) → ((i : ℕ) → i < a + n → P (f i))
@@ -120,8 +116,7 @@ rows_writable bytes demo fits read =
 pub one_more : (old new : List ℕ) (start : Start) (view : ℕ) (present : List Bool)
     (rows : List (List (Option Move))) (tic : ℕ) (row : List (Option Move))
     → AddsRow old new row → old ≡ demo_text long_tics start view present (take tic rows) false
-    → Some row ≡ slice_get rows tic
-    → new ≡ demo_text long_tics start view present (take (tic + 1) rows) false
+    → Some row ≡ slice_get rows tic → new ≡ demo_text long_tics start view present (take (tic + 1) rows) false
 one_more old new start view present rows tic row adds e is =
     let below = slice_get_within rows tic row (sym is) in
     let same = get_or_from_slice_get rows tic row row (sym is) in
@@ -185,5 +180,4 @@ row_recordable layout bytes kept after demo seats own players tic row whole none
     let row_is : moves_from layout kept seats (player_count seats * tic) ≡ row =
     ap (λ n. moves_from layout kept seats (n * tic)) (sym h) ∙ sym is in
     subst (λ (r : List (Option Move)). IsRow own r) row_is
-    (subst (λ (s : List Bool). IsRow s (moves_from layout kept seats (player_count seats * tic)))
-    (f ∙ sym g) told)
+    (subst (λ (s : List Bool). IsRow s (moves_from layout kept seats (player_count seats * tic))) (f ∙ sym g) told)

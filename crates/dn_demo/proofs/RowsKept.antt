@@ -75,8 +75,7 @@ module _ {S W : Type 0} (state : W → S) (physics : Physics S) (layout : Layout
       }
 
   pub of_unmarked : (f : Feeding W) → f.marked ≡ false
-      → Unmarked state physics layout bytes f.after f.tics f.row f.world
-      → ShowsRows state physics layout bytes f
+      → Unmarked state physics layout bytes f.after f.tics f.row f.world → ShowsRows state physics layout bytes f
   of_unmarked f free u =
       let ends : IsUpToMarker layout bytes false bytes f.after = (u.none, refl, u.none_after) in
       record {
@@ -171,8 +170,7 @@ module _ {S W : Type 0} (state : W → S) (physics : Physics S) (layout : Layout
               none_after = u.none_after;
               size = omega (arith, end);
               rest = sym (drop-length all) ∙ ap (λ n. drop n all) end;
-              unfinished =
-                  omega (arith, same_size layout bytes more (omega (arith, whole)), u.unfinished);
+              unfinished = omega (arith, same_size layout bytes more (omega (arith, whole)), u.unfinished);
               played = stepped
                   ∙ (λ i. physics.step
                   ((u.played ∙ sym (state_by-append physics layout bytes more tics whole)) i) (row_told i))
@@ -205,8 +203,7 @@ module _ {S W : Type 0} (state : W → S) (physics : Physics S) (layout : Layout
       let begins : length bytes ≡ place layout (player_count present * tics) =
       end ∙ ap (λ p. place layout (p * tics)) (sym count) in
       let joined : all ++ drop many piece ≡ bytes ++ piece =
-      append_assoc bytes front (drop many piece)
-      ∙ ap (λ (t : List ℕ). bytes ++ t) (take-append-drop many piece) in
+      append_assoc bytes front (drop many piece) ∙ ap (λ (t : List ℕ). bytes ++ t) (take-append-drop many piece) in
       record {
         none = none_behind layout bytes front u.none (λ command past here.
             let j = command - players * tics in
@@ -216,8 +213,7 @@ module _ {S W : Type 0} (state : W → S) (physics : Physics S) (layout : Layout
             let apart : size * (players * tics + j) ≡ size * (players * tics) + size * j = omega arith in
             let index : place layout command - length bytes ≡ size * j =
             omega (arith, ap (place layout) split, apart, end) in
-            let in_front : slice_get front (size * j) ≡ Some marker =
-            ap (slice_get front) (sym index) ∙ here in
+            let in_front : slice_get front (size * j) ≡ Some marker = ap (slice_get front) (sym index) ∙ here in
             let inside = slice_get_within front (size * j) marker in_front in
             let in_piece : slice_get piece (size * j) ≡ Some marker =
             ap (λ (t : List ℕ). slice_get t (size * j)) (sym (take-append-drop many piece))
@@ -253,10 +249,8 @@ module _ {S W : Type 0} (state : W → S) (physics : Physics S) (layout : Layout
       → EndsBehind layout (bytes ++ more) commands → front ≡ take (place layout commands) (bytes ++ more)
       → f.after ≡ length (bytes ++ more) - (place layout commands + 1)
       → row_place layout bytes f.tics ≤ length front → length front ≤ length bytes
-      → f.row ≡ drop (row_place layout bytes f.tics) front
-      → length f.row < row_size layout (seats_in bytes)
-      → state f.world ≡ state_by physics layout bytes f.tics
-      → ShowsRows state physics layout (bytes ++ more) f
+      → f.row ≡ drop (row_place layout bytes f.tics) front → length f.row < row_size layout (seats_in bytes)
+      → state f.world ≡ state_by physics layout bytes f.tics → ShowsRows state physics layout (bytes ++ more) f
   rows_longer f front commands marked ends is after whole within row unfinished played =
       let at = same_place layout bytes more f.tics (omega (arith, whole, within)) in
       let all : IsUpToMarker layout (bytes ++ more) true front f.after = (commands, ends, is, after) in
@@ -265,18 +259,14 @@ module _ {S W : Type 0} (state : W → S) (physics : Physics S) (layout : Layout
         ends = subst (λ m. IsUpToMarker layout (bytes ++ more) m front f.after) (sym marked) all;
         whole = omega (arith, at, whole);
         row = row ∙ ap (λ n. drop n front) (sym at);
-        unfinished =
-            omega (arith, same_size layout bytes more (omega (arith, whole, within)), unfinished);
-        world = played
-            ∙ sym (state_by-append physics layout bytes more f.tics (omega (arith, whole, within)));
+        unfinished = omega (arith, same_size layout bytes more (omega (arith, whole, within)), unfinished);
+        world = played ∙ sym (state_by-append physics layout bytes more f.tics (omega (arith, whole, within)));
       }
 
 -- the marker
 pub marker_came : {S W : Type 0} (state : W → S) (physics : Physics S) (layout : Layout) (bytes : List ℕ)
-    (f : Feeding W) (taken : ℕ) (header : List ℕ)
-    → Unmarked state physics layout bytes f.after f.tics f.row f.world
-    → length f.row % command_size layout ≡ 0
-    → ShowsRows state physics layout (bytes ++ marker ∷ [])
+    (f : Feeding W) (taken : ℕ) (header : List ℕ) → Unmarked state physics layout bytes f.after f.tics f.row f.world
+    → length f.row % command_size layout ≡ 0 → ShowsRows state physics layout (bytes ++ marker ∷ [])
     (record f { taken = taken; header = header; marked = true })
 marker_came state physics layout bytes f taken header u even =
     let more = marker ∷ [] in
@@ -301,8 +291,7 @@ marker_came state physics layout bytes f taken header u even =
 
 -- what follows the marker
 pub passed : {S W : Type 0} (state : W → S) (physics : Physics S) (layout : Layout) (bytes more : List ℕ)
-    (f : Feeding W) (taken : ℕ) (header : List ℕ) → f.marked ≡ true
-    → ShowsRows state physics layout bytes f
+    (f : Feeding W) (taken : ℕ) (header : List ℕ) → f.marked ≡ true → ShowsRows state physics layout bytes f
     → ShowsRows state physics layout (bytes ++ more)
     (record f { taken = taken; header = header; after = f.after + length more })
 passed state physics layout bytes more f taken header was rows =

@@ -1,8 +1,7 @@
 -- A world that is stepped by the rows of a demo.
-use Rattle.std.proofs.Common.{◌≡◌, ◌<◌, ◌≤◌, ℕ, zero, suc, ◌+◌, ◌-◌, List, [], ◌∷◌, ◌++◌, length, drop, slice_get, refl, ap, ◌∙◌, arith, ◌≢◌, ◌*◌, Bool, map, take, fold, Option, Some, sym, inl, inr, append_assoc, length-append}
-use Rattle.std.specs.List.{range_with_len}
-use Rattle.std.proofs.Math.Nat.{mul-le-mul_left}
+use Rattle.std.proofs.Common.{◌≡◌, ◌<◌, ◌≤◌, ℕ, zero, suc, ◌+◌, ◌-◌, List, [], ◌∷◌, ◌++◌, length, drop, slice_get, refl, ap, ◌∙◌, arith, ◌≢◌, ◌*◌, Bool, map, take, fold, Option, Some, sym, inl, inr, append_assoc, length-append, mul-le-mul_left}
 use Rattle.std.proofs.lemmas.{Bool.cases_lt, List.{take-append-le, take-append-drop, length-take-le, length-drop, drop-drop}, List.FromFn.map-range_with_len_more, List.Sums.fold-append}
+use Rattle.std.specs.List.{range_with_len}
 use Rattle.dn_tic.specs.declared.command.Move.{Move}
 use Rattle.dn_world.specs.Physics.{Physics}
 use Rattle.dn_demo.specs.{Layout.{Layout, command_size}, Text.{player_count, marker}, Places.{start_in, seats_in, place, moves_from, row_in, rows_in}, Feeding.{row_size, state_by, StepsRows}}
@@ -17,8 +16,7 @@ get_first (x ∷ xs) ys zero below = refl
 get_first (x ∷ xs) ys (suc i) below = get_first xs ys i (omega arith)
 
 -- what stands behind it
-pub get_second : (xs ys : List ℕ) (i : ℕ) → length xs ≤ i
-    → slice_get (xs ++ ys) i ≡ slice_get ys (i - length xs)
+pub get_second : (xs ys : List ℕ) (i : ℕ) → length xs ≤ i → slice_get (xs ++ ys) i ≡ slice_get ys (i - length xs)
 get_second [] ys i past = ap (slice_get ys) (omega arith)
 get_second (x ∷ xs) ys zero past = absurd (omega arith)
 get_second (x ∷ xs) ys (suc i) past = grind (arith, suc, get_second xs ys i (omega arith), slice_get)
@@ -48,8 +46,7 @@ moves_from-append : (layout : Layout) (k : ℕ) (bytes more : List ℕ) (seats :
     ≡ moves_from layout bytes seats command
 moves_from-append layout k bytes more seats command whole fits =
     sym (moves_from-take layout k (bytes ++ more) seats command fits)
-    ∙ ap (λ (t : List ℕ). moves_from layout t seats command)
-    (take-append-le (place layout k) bytes more whole)
+    ∙ ap (λ (t : List ℕ). moves_from layout t seats command) (take-append-le (place layout k) bytes more whole)
     ∙ moves_from-take layout k bytes seats command fits
 
 row_in-append : (layout : Layout) (bytes more : List ℕ) (tics tic : ℕ)
@@ -60,8 +57,7 @@ row_in-append layout bytes more tics tic whole below =
     let fits : players * (tic + 1) ≤ players * tics = mul-le-mul_left players (omega arith) in
     ap (λ (s : List Bool). moves_from layout (bytes ++ more) s (player_count s * tic))
     (seats_in-append bytes more (omega arith))
-    ∙ moves_from-append layout (players * tics) bytes more (seats_in bytes) (players * tic) whole
-    (omega arith)
+    ∙ moves_from-append layout (players * tics) bytes more (seats_in bytes) (players * tic) whole (omega arith)
 
 pub rows_in-append : (layout : Layout) (bytes more : List ℕ) (tics : ℕ)
     → place layout (player_count (seats_in bytes) * tics) ≤ length bytes
@@ -88,14 +84,12 @@ state_by-more physics layout bytes tics =
 
 -- no step yet
 pub steps_none : {S W : Type 0} (state : W → S) (physics : Physics S) (layout : Layout) (present : List Bool)
-    (w : W) (piece : List ℕ)
-    → StepsRows state physics layout present w piece piece w
+    (w : W) (piece : List ℕ) → StepsRows state physics layout present w piece piece w
 steps_none state physics layout present w piece = grind (arith, state_by-append)
 
 -- one row on
 pub steps_more : {S W : Type 0} (state : W → S) (physics : Physics S) (layout : Layout) (present : List Bool)
-    (old mid new : W)
-    (piece rest after : List ℕ) (moves : List (Option Move))
+    (old mid new : W) (piece rest after : List ℕ) (moves : List (Option Move))
     → StepsRows state physics layout present old piece rest mid
     → row_size layout present ≤ length rest → after ≡ drop (row_size layout present) rest
     → ((command : ℕ) → command < player_count present

@@ -1,9 +1,8 @@
 -- What holds of both layouts, and of the text of a demo that goes on, and how long its parts are.
 use Rattle.std.proofs.Common.{◌≡◌, ◌<◌, ◌≤◌, ℕ, suc, ◌+◌, ◌*◌, ◌/◌, ℤ, pos, negsuc, int_rem, length, Some, FitsSigned, refl, ap, ◌∙◌, arith, w8, length-append, Bool, true, false, List, [], ◌∷◌, ◌++◌, map, Option, None, is_some, append_assoc, append-nil}
+use Rattle.std.proofs.{Math.{Nat.{mul-le-mul_left, le_of_mul-le-mul_left}, Seq.take-append_seam}, lemmas.List.get_or_at}
+use Rattle.std.proofs.lemmas.{Int.{ints, to_z-of_z}, List.Concat.flat_map-append, Nat.from_le_bytes-to_le_bytes_2}
 use Rattle.std.specs.Int.{w16, cast_signed, cast_unsigned}
-use Rattle.std.proofs.Math.{Nat.{mul-le-mul_left, le_of_mul-le-mul_left}, Seq.take-append_seam}
-use Rattle.std.proofs.lemmas.{Int.{ints, to_z-of_z}, List.get_or_at, Nat.from_le_bytes-to_le_bytes_2}
-use Rattle.std.proofs.lemmas.List.Concat.{flat_map-append}
 use Rattle.dn_tic.specs.declared.command.Move.{Move}
 use Rattle.dn_setup.specs.{declared.settings.Start.Start, Settings.bit}
 use Rattle.dn_demo.specs.{Layout.{Layout, vanilla, long_tics, layout_of_version, command_size, spell, tell}, Text.{IsMove, IsWhole, player_count, demo_text, header, row_bytes, marker}, Places.{place, seats_in, is_set}}
@@ -43,8 +42,7 @@ pub move_told : (layout : Layout) (m : Move) → IsSound layout → IsMove m →
 move_told layout m sound fits is = grind (arith, take-append_seam, to_z-of_z, w8, get_or_at)
 
 -- how many bytes a move has
-pub length-spell : (layout : Layout) (m : Move) → IsSound layout
-    → length (spell layout m) ≡ command_size layout
+pub length-spell : (layout : Layout) (m : Move) → IsSound layout → length (spell layout m) ≡ command_size layout
 length-spell layout m sound = grind (arith, length-append)
 
 -- places of commands keep their order
@@ -69,8 +67,7 @@ text-closed old new e start view present rows text = grind (arith, append-nil)
 
 -- a command for each player who is present
 pub length-row_bytes : (layout : Layout) (present : List Bool) (row : List (Option Move)) → IsSound layout
-    → map is_some row ≡ present
-    → length (row_bytes layout row) ≡ command_size layout * player_count present
+    → map is_some row ≡ present → length (row_bytes layout row) ≡ command_size layout * player_count present
 length-row_bytes layout [] [] sound e = omega arith
 length-row_bytes layout (p ∷ ps) [] sound e = cc
 length-row_bytes layout [] (s ∷ row) sound e = cc
@@ -101,8 +98,7 @@ is_set-bit false = refl
 
 -- the flags of a header are those of its players
 pub header-seats : (layout : Layout) (start : Start) (view : ℕ) (present : List Bool) (more : List ℕ)
-    → length present ≡ 4
-    → seats_in (header layout start view present ++ more) ≡ present
+    → length present ≡ 4 → seats_in (header layout start view present ++ more) ≡ present
 header-seats layout start view (a ∷ b ∷ c ∷ d ∷ []) more four =
     λ i. is_set-bit a i ∷ is_set-bit b i ∷ is_set-bit c i ∷ is_set-bit d i ∷ []
 header-seats layout start view _ more four = absurd (omega arith)

@@ -1,2 +1,7 @@
 pub mod Parcels
 pub mod Staying
+pub mod Beginning
+pub mod Calling
+pub mod Going
+pub mod Agreeing
+pub mod Opening

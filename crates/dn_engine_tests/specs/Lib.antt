@@ -1,4 +1,5 @@
 pub mod Calls
+pub mod Engines
 pub mod Letters
 pub mod Pairs
-pub mod Sessions
+pub mod Tables

@@ -1,12 +1,10 @@
-//! Games of two: of locksteps, from the opening to the leave of the second player; and of sessions, from the first
-//! call to the first tic.
+//! A game of two locksteps, from the opening to the leave of the second player.
 
-use crate::{begin_game, pass_on, play, run_tic};
+use crate::play;
 use dn_lockstep::{MOST_AHEAD, WIDEST_AHEAD};
-use dn_machine::{Cause, Phase, Ran};
-use dn_session::{Address, HostConfig, JoinConfig, Policy, Session, Terms};
+use dn_machine::{Cause, Phase};
 use dn_setup::Settings;
-use dn_tic::{Command, Input, Keys};
+use dn_tic::Command;
 use std::process::Abort;
 use std::test::Fail;
 
@@ -74,71 +72,5 @@ fn two_play_and_one_leaves(rt: HostRuntime) -> Result<(), Fail> {
         assert_eq!(&rt; last.chat, b'n');
         assert_eq!(&rt; last.mark, 26);
     }
-    Ok(())
-}
-
-/// The secret of the game of sessions.
-const SECRET: Option<[u8; 32]> = Some([7; 32]);
-
-/// Where its host is, and who joins.
-const HOST: Address = Address { bytes: [1; 32] };
-
-const JOINER: Address = Address { bytes: [2; 32] };
-
-/// Its host.
-fn host(settings: Settings) -> HostConfig {
-    HostConfig {
-        secret: SECRET,
-        random: [3; 32],
-        name: [0; 16],
-        terms: Terms {
-            players: 2,
-            extra: false,
-            ahead: 2,
-            rate: 35,
-            limit: 1024,
-            settings,
-            policy: Policy::Wait,
-            identity: [0; 16],
-            own: [0; 256],
-        },
-    }
-}
-
-/// Who joins.
-fn joiner() -> JoinConfig {
-    JoinConfig {
-        secret: SECRET,
-        random: [4; 32],
-        host: HOST,
-        seat: None,
-        players: None,
-        identity: [0; 16],
-        name: [0; 16],
-    }
-}
-
-#[test]
-fn sessions_begin_and_run(rt: HostRuntime) -> Result<(), Fail> {
-    let mut one = Session::host(&host(Settings::new(2, 0, false, false, 1, 1)?))?;
-    let mut other = Session::join(&joiner(), 0)?;
-    for now in [0, 600, 1200] {
-        other.poll(now);
-        pass_on(&mut other, &mut one, &JOINER, now);
-        pass_on(&mut one, &mut other, &HOST, now);
-    }
-    assert!(&rt; begin_game(rt.alloc(), &mut one, &mut other, 1200)?);
-    let input = Input::Pressed(Keys::default());
-    // At the level at which links begin, no datagram goes at one of three ticks, which is the first.
-    for now in [1300, 1330] {
-        assert!(&rt; one.give(input, now));
-        assert!(&rt; other.give(input, now));
-        pass_on(&mut other, &mut one, &JOINER, now);
-        pass_on(&mut one, &mut other, &HOST, now);
-    }
-    let (mut here, mut there) = ([None; 4], [None; 4]);
-    assert_eq!(&rt; run_tic(&mut one, &mut here), Ran::Ran(0));
-    assert_eq!(&rt; run_tic(&mut other, &mut there), Ran::Ran(0));
-    assert!(&rt; here == there);
     Ok(())
 }

@@ -1,20 +1,16 @@
 -- The nodes of a game agree, since the machine's nodes that they represent do.
-use Rattle.std.specs.Prelude.{All, slice_get, fold}
-use Rattle.std.specs.Option.{option_map}
-use Rattle.std.proofs.Common.{◌≡◌, ℕ, List, [], ◌∷◌, ◌++◌, Result, ap, sym, ◌∙◌, append-nil, arith, ◌≢◌, ℤ, Bool, true, false, true≢false, not, cond, Option, Some, None, Ok, Err, ltb, refl, inl, inr, ◌<◌, ◌≤◌, length, subst}
-use Rattle.std.proofs.lemmas.List.{append_assoc}
-use Rattle.std.proofs.lemmas.{List.Elements.{All-cons, All-nil}, Bool.{ltb-true, cases_lt}}
+use Rattle.std.proofs.Common.{◌≡◌, ℕ, List, ◌++◌, Result, ap, sym, ◌∙◌, append-nil, arith, ◌≢◌, ℤ, Bool, true, false, true≢false, not, cond, Option, Some, None, Ok, Err, ltb, refl, inl, inr, ◌<◌, ◌≤◌, length, subst, All, slice_get, fold, option_map}
+use Rattle.std.proofs.lemmas.{List.{append_assoc, Elements.{All-cons, All-nil}}, Bool.{ltb-true, cases_lt}}
 use Rattle.std.proofs.lemmas.Option.{same_Some, slice_get_within}
 use Rattle.dn_setup.specs.Settings.{Settings}
 use Rattle.dn_machine.specs.{declared.events.Done.Done, declared.events.Event.Event, declared.events.Refusal.Refusal, Worlds.{Rules, opening, world, world_after}, Flight.Flight, Node.{Node, ran, demo_rows}, Sending.{on_build_by, on_send}, Hearing.on_packet, Running.{on_run, on_quit, tic_limit}}
 use Rattle.dn_machine.specs.{Game.{Game, opening_game, applied, on_own_run, posted, delivered, refused_flight, refused, on_event, applied_if}, Promise.inputs_of}
-use Rattle.dn_machine.specs.{Limits.IsWindow, declared.answers.Phase.TheVariants.Ended, declared.answers.Ran.Ran, declared.events.Event.TheVariants.{Build, Give, Send, Deliver, Run, Quit, Stop}}
+use Rattle.dn_machine.specs.{Limits.IsWindow, declared.answers.Phase.TheVariants.Ended, declared.answers.Ran.Ran, declared.events.Event.TheVariants.{Run}}
 use Rattle.dn_machine.specs.declared.answers.Cause.TheVariants as Cause
 use Rattle.dn_machine.specs.Game as machine
 use Rattle.dn_game.specs.{Promised.{inputs_by, inputs_made, IsSteady, IsReached, IsPromised}, Played.{Answers, Plays}}
 use Rattle.dn_game.specs.{Contents.{Contents, Represents}, Agreed.{AreAgreed, HasNode, lockstep_in, lockstep_at}}
-use Rattle.dn_tic.specs.declared.input.Input.{Input}
-use Rattle.dn_tic.specs.declared.command.Move.{Move}
+use Rattle.dn_tic.specs.declared.{input.Input.Input, command.Move.Move}
 use Rattle.dn_demo.specs.Reading.{state_after}
 use Rattle.dn_machine.proofs.{Invariant.IsKept, Games.{opens, happens_keeps, applied_keeps, always}, Put.put_at}
 use Rattle.dn_machine.proofs.Promises
@@ -26,7 +22,7 @@ use Rattle.dn_lockstep.proofs.Agreeing as locksteps
 use Rattle.dn_node.specs.{declared.node.Node.Node as NodeOf, Contents.locked}
 use Rattle.dn_node.specs.Contents as node
 use Rattle.dn_node.proofs.Running.{world_recorded}
-use Rattle.dn_game.proofs.{Standing.{window_of, there_is}, Answering.{plays_leads, leads_plays}}
+use Rattle.dn_game.proofs.{Standing.{window_of, there_is}, Answering.{follows, plays_leads, leads_plays}}
 
 -- The inputs that the machine's nodes took are those of the builds that made a command.
 
@@ -51,8 +47,7 @@ quit_keeps node = grind arith
 
 -- one player's inputs, by one event
 answered : {S : Type 0} (rules : Rules S) (game next : Game) (player : ℕ) (event : Event)
-    (answer : Result Done Refusal)
-    → Answers rules game event answer next
+    (answer : Result Done Refusal) → Answers rules game event answer next
     → (next.nodes player).inputs ≡ (game.nodes player).inputs ++ inputs_by event answer player
 unfolding applied on_build_by
 answered rules game next player event answer is =
@@ -63,14 +58,13 @@ inputs_after : {S : Type 0} (rules : Rules S) (player : ℕ) (events : List Even
     (answers : List (Result Done Refusal)) (game last : Game)
     → Plays rules game events answers last → (last.nodes player).inputs
     ≡ (game.nodes player).inputs ++ inputs_made events answers player
-inputs_after rules player [] [] game last same = ap (λ (g : Game). (g.nodes player).inputs) same
-    ∙ sym (append-nil (game.nodes player).inputs)
-inputs_after rules player [] (a ∷ answers) game last way = absurd way
-inputs_after rules player (e ∷ events) [] game last way = absurd way
-inputs_after rules player (e ∷ events) (a ∷ answers) game last (next, one, rest) =
-    inputs_after rules player events answers next last rest
+inputs_after rules player =
+    follows (Answers rules)
+    (λ game events answers last. (last.nodes player).inputs ≡ (game.nodes player).inputs ++ inputs_made events answers player)
+    (λ game last same. ap (λ (g : Game). (g.nodes player).inputs) same ∙ sym (append-nil (game.nodes player).inputs))
+    (λ e a events answers game next last one rest. rest
     ∙ ap (λ (ks : List Input). ks ++ inputs_made events answers player) (answered rules game next player e a one)
-    ∙ append_assoc (game.nodes player).inputs (inputs_by e a player) (inputs_made events answers player)
+    ∙ append_assoc (game.nodes player).inputs (inputs_by e a player) (inputs_made events answers player))
 
 pub inputs_played : {S : Type 0} (rules : Rules S) (settings : Settings) (events : List Event)
     (answers : List (Result Done Refusal)) (last : Game)
@@ -111,15 +105,8 @@ module _ {S : Type 0} (rules : Rules S) (settings : Settings) (game : Game)
   sends game (Some flight) = other_steady _ refl
 
   delivers : (which : ℕ) (flight : Option Flight) → slice_get game.flights which ≡ flight
-      → refused_flight game flight ≡ None
-      → IsSteady (Ok (delivered rules game flight).1)
-  delivers which None there free = absurd (cc)
-  delivers which (Some flight) there free =
-      record {
-        consistent = λ player was should e. absurd (cc);
-        kept = λ number e. (Promises.steady rules settings game kept).kept which flight number there free
-            (cc);
-      }
+      → refused_flight game flight ≡ None → IsSteady (Ok (delivered rules game flight).1)
+  delivers which flight there free = grind (arith, Promises.steady)
 
   runs : (node : ℕ) → refused rules.players game (Run node) ≡ None
       → IsSteady (Ok (on_event rules game (Run node)).1)
@@ -136,13 +123,7 @@ module _ {S : Type 0} (rules : Rules S) (settings : Settings) (game : Game)
 
   happens : (event : Event) → refused rules.players game event ≡ None
       → IsSteady (Ok (on_event rules game event).1)
-  happens (Build node keys) free = other_steady _ refl
-  happens (Give node command) free = other_steady _ refl
-  happens (Send node to) free = sends _ _
-  happens (Deliver which) free = delivers which (slice_get game.flights which) refl free
-  happens (Run node) free = runs node free
-  happens (Quit node) free = other_steady _ refl
-  happens (Stop node) free = other_steady _ refl
+  happens event free = grind (arith, other_steady, sends, delivers, slice_get, runs)
 
   pub applied_steady : (event : Event) → IsSteady (applied rules game event).1
   unfolding applied
@@ -153,24 +134,24 @@ module _ {S : Type 0} (rules : Rules S) (settings : Settings) (game : Game)
       go (Some refusal) e = other_steady (Err refusal) refl
       go None e = happens event e
 
--- nor is one of a list
-steady_from : {S : Type 0} (rules : Rules S) (settings : Settings) (events : List Event)
-    (answers : List (Result Done Refusal)) (game last : Game)
-    → IsKept rules settings game → Plays rules game events answers last → All IsSteady answers
-steady_from rules settings [] [] game last kept way = All-nil IsSteady
-steady_from rules settings [] (a ∷ answers) game last kept way = absurd way
-steady_from rules settings (e ∷ events) [] game last kept way = absurd way
-steady_from rules settings (e ∷ events) (a ∷ answers) game last kept (next, inl (same, answered), rest) = grind (arith, applied_steady, steady_from rules settings events answers next last (rw same (applied_keeps rules settings game kept e)) rest, applied_keeps)
-steady_from rules settings (e ∷ events) (a ∷ answers) game last kept
-    (next, inr (free, send, same, answered), rest) =
-    All-cons IsSteady a answers (rw answered (other_steady (Err Refusal.Memory) refl))
-    (steady_from rules settings events answers next last (rw same kept) rest)
+-- nor is one that was taken, and what is kept stays so
+answer_steady : {S : Type 0} (rules : Rules S) (settings : Settings) (event : Event) (answer : Result Done Refusal)
+    (game next : Game) → Answers rules game event answer next → IsKept rules settings game
+    → IsSteady answer × IsKept rules settings next
+answer_steady rules settings event answer game next (inl (same, is)) kept =
+    (rw is (applied_steady rules settings game kept event), rw same (applied_keeps rules settings game kept event))
+answer_steady rules settings event answer game next (inr (free, send, same, is)) kept =
+    (rw is (other_steady (Err Refusal.Memory) refl), rw same kept)
 
+-- nor is one of a list
 pub steady_answers : {S : Type 0} (rules : Rules S) (window : IsWindow rules.limits) (settings : Settings) (events : List Event)
     (answers : List (Result Done Refusal)) (last : Game)
     → Plays rules (opening_game settings) events answers last → All IsSteady answers
 steady_answers rules window settings events answers last way =
-    steady_from rules settings events answers (opening_game settings) last (opens rules settings window) way
+    follows (Answers rules) (λ game events answers last. IsKept rules settings game → All IsSteady answers)
+    (λ game last same kept. All-nil IsSteady) (λ e a events answers game next last one rest kept.
+    let stays = answer_steady rules settings e a game next one kept in All-cons IsSteady a answers stays.0 (rest stays.1))
+    events answers (opening_game settings) last way (opens rules settings window)
 
 -- The nodes agree.
 
@@ -218,11 +199,9 @@ module _ {W S : Type 0} (state : W → S) (rules : Rules S) (g : Contents W) (m 
       settings_are = (kept.sound i inside).played played
 
       world_is : state n.world ≡ world rules settings (inputs_of m) n.ran
-      world_is = same_Some _ _
-          (shown.world played
+      world_is = same_Some _ _ (shown.world played
           ∙ ap (option_map (λ (s : Settings). world_after rules s (m.nodes i).rows (length (m.nodes i).rows)))
-          settings_are)
-          ∙ (Promises.agree rules settings m kept).worlds i inside
+          settings_are) ∙ (Promises.agree rules settings m kept).worlds i inside
           ∙ ap (world rules settings (inputs_of m)) (sym shown.lockstep.table.ran)
 
       rows_are : demo_rows rules.players (m.nodes i) ≡ rows_made rules.players (inputs_of m) n.ran
@@ -284,6 +263,4 @@ module _ {W S : Type 0} (state : W → S) (rules : Rules S) (settings : Settings
 
   pub reached_promised : (g : Contents W) → (r : IsReached state rules settings events g)
       → (answers : List (Result Done Refusal)) × IsPromised state rules settings events answers r.last g
-  reached_promised g r =
-      let way = leads_plays rules events (opening_game settings) r.last r.run in
-      (way.0, promised way.0 r.last g way.1 r.game)
+  reached_promised g r = grind (arith, leads_plays, promised)

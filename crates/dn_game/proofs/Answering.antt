@@ -1,6 +1,5 @@
 -- One event more in a list that was played.
-use Rattle.std.proofs.Common.{◌≡◌, ◌+◌, ℕ, suc, Bool, cond, length, ap, List, [], ◌∷◌, ◌++◌, Option, Some, None, Result, Err, refl, inl, inr, arith}
-use Rattle.std.specs.Prelude.{IsTrue, count_by, is_ok, is_err}
+use Rattle.std.proofs.Common.{◌≡◌, ◌+◌, ℕ, suc, Bool, cond, length, ap, List, [], ◌∷◌, ◌++◌, Option, Some, None, Result, Err, refl, inl, inr, arith, IsTrue, count_by, is_ok, is_err}
 use Rattle.std.proofs.lemmas.List.Sums.{sum_by-append}
 use Rattle.dn_setup.specs.Settings.{Settings}
 use Rattle.dn_machine.specs.{declared.events.Done.Done, declared.events.Event.Event, declared.events.Refusal.Refusal, Game.{Game, applied, opening_game, refused}, Runs.{Leads, Next, is_send}, Worlds.Rules}
@@ -34,25 +33,24 @@ module _ {G E A : Type 0} (Step : G → E → A → G → Type 0) where
   plays_more events answers event answer game mid last way next =
       plays_on events (event ∷ []) answers (answer ∷ []) game mid last way (last, next, refl)
 
-  -- each event has an answer
-  pub as_many : (events : List E) (answers : List A) (game last : G) → PlaysBy Step game events answers last
-      → length events ≡ length answers
-  as_many [] [] game last way = refl
-  as_many [] (a ∷ answers) game last way = absurd way
-  as_many (e ∷ events) [] game last way = absurd way
-  as_many (e ∷ events) (a ∷ answers) game last way = ap suc (as_many events answers way.0 last way.2)
-
   -- what follows from each step holds of what was played
-  pub follows : (Way : G → List E → G → Type 0) → ((game last : G) → last ≡ game → Way game [] last)
-      → ((event : E) (answer : A) (events : List E) (game next last : G) → Step game event answer next
-      → Way next events last → Way game (event ∷ events) last)
+  pub follows : (Way : G → List E → List A → G → Type 0) → ((game last : G) → last ≡ game → Way game [] [] last)
+      → ((event : E) (answer : A) (events : List E) (answers : List A) (game next last : G)
+      → Step game event answer next → Way next events answers last
+      → Way game (event ∷ events) (answer ∷ answers) last)
       → (events : List E) (answers : List A) (game last : G) → PlaysBy Step game events answers last
-      → Way game events last
+      → Way game events answers last
   follows Way none one [] [] game last way = none game last way
   follows Way none one [] (a ∷ answers) game last way = absurd way
   follows Way none one (e ∷ events) [] game last way = absurd way
   follows Way none one (e ∷ events) (a ∷ answers) game last way =
-      one e a events game way.0 last way.1 (follows Way none one events answers way.0 last way.2)
+      one e a events answers game way.0 last way.1 (follows Way none one events answers way.0 last way.2)
+
+  -- so each event has an answer
+  pub as_many : (events : List E) (answers : List A) (game last : G) → PlaysBy Step game events answers last
+      → length events ≡ length answers
+  as_many = follows (λ game events answers last. length events ≡ length answers) (λ game last same. refl)
+      (λ e a events answers game next last one same. ap suc same)
 
 module _ {S : Type 0} (rules : Rules S) where
   -- a send that is left out has its answer
@@ -82,9 +80,9 @@ module _ {S : Type 0} (rules : Rules S) where
   -- so what was played is one of the runs
   pub plays_leads : (events : List Event) (answers : List (Result Done Refusal)) (game last : Game)
       → Plays rules game events answers last → Leads rules game events last
-  plays_leads =
-      follows (Answers rules) (Leads rules) (λ game last same. same)
-      (λ event answer events game next last one rest. (next, answers_next event answer game next one, rest))
+  plays_leads = follows (Answers rules) (λ game events answers last. Leads rules game events last)
+      (λ game last same. same) (λ event answer events answers game next last one rest.
+      (next, answers_next event answer game next one, rest))
 
 -- an event that was applied has its answer
 pub answers_one : {W S : Type 0} (state : W → S) (rules : Rules S) (old new : Contents W) (m : Game)

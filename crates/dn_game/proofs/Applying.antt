@@ -1,9 +1,7 @@
 -- Why the machine refuses an event, by what was looked at, and that an event is applied as its refusal
 -- says.
-use Rattle.std.proofs.Common.{◌≡◌, ◌<◌, ◌⊎◌, ℕ, Bool, true, false, length, Option, Some, None, ap, sym, ◌∙◌, arith, set, Result, Ok, Err, refl, subst, inl, inr}
-use Rattle.std.specs.Prelude.{not, if◌then◌else◌, nat_lt, slice_get, slice_index_or}
-use Rattle.std.proofs.lemmas.Bool.{cond-false}
-use Rattle.std.proofs.lemmas.List.{get_or-set_same, get_or-set_other}
+use Rattle.std.proofs.Common.{◌≡◌, ◌<◌, ◌⊎◌, ℕ, Bool, true, false, length, Option, Some, None, ap, sym, ◌∙◌, arith, set, Result, Ok, Err, refl, subst, inl, inr, not, if◌then◌else◌, nat_lt, slice_get, slice_index_or}
+use Rattle.std.proofs.lemmas.{Bool.cond-false, List.{get_or-set_same, get_or-set_other}}
 use Rattle.dn_machine.specs.{Flight.is_near, Node.{made, put}, Game.{refused_at, refused, refused_flight, applied, applied_if, on_event, with_node}, Worlds.Rules, declared.events.Event.Event, declared.events.Event.TheVariants.{Build, Give, Send, Run, Quit, Stop}, declared.events.Refusal.Refusal}
 use Rattle.dn_tic.specs.{declared.keys.Keys.Keys, declared.input.Command.Command}
 use Rattle.dn_node.specs.declared.node.Node.{Node}
@@ -28,8 +26,7 @@ module _ (m : machine.Game) (which : ℕ) (flight : exact.Flight)
     (there : slice_get m.flights which ≡ Some flight) (near : Bool)
     (near_is : near ≡ is_near (made flight.to (m.nodes flight.to)) flight) where
   is_refused : (if near then (if m.stopped flight.to then Some Refusal.Stopped else None)
-      else Some Refusal.Far)
-      ≡ refused_flight m (slice_get m.flights which)
+      else Some Refusal.Far) ≡ refused_flight m (slice_get m.flights which)
   is_refused = grind arith
 
 -- the same of a game that represents it, whose receiver was asked how many commands it made
@@ -60,8 +57,7 @@ module _ {W S : Type 0} (state : W → S) (rules : Rules S) (g : Contents W) (m 
       tested sent.0 of.aim ∙ ap (λ (k : ℕ). is_near k sent.0) known
 
   refused_so : (if near then (if m.stopped sent.0.to then Some Refusal.Stopped else None)
-      else Some Refusal.Far)
-      ≡ refused_flight m (slice_get m.flights which)
+      else Some Refusal.Far) ≡ refused_flight m (slice_get m.flights which)
   refused_so = is_refused m which sent.0 sent.1.there near tells_near
 
   pub told_far : near ≡ false → Some Refusal.Far ≡ refused_flight m (slice_get m.flights which)
@@ -78,20 +74,16 @@ IsOfNode node event = ((keys : Keys) × (event ≡ Build node keys)) ⊎ (((comm
     ⊎ ((event ≡ Run node) ⊎ ((event ≡ Quit node) ⊎ (event ≡ Stop node))))
 
 pub refused_own : (players : ℕ) (m : machine.Game) (node place : ℕ) (event : Event) → place ≡ node
-    → IsOfNode node event
-    → refused_at players m place ≡ refused players m event
+    → IsOfNode node event → refused_at players m place ≡ refused players m event
 refused_own players m node place event e is = grind arith
 
-not_far : (near stopped : Bool)
-    → ◌≡◌ {A = Option Refusal}
-    (if not near then Some Refusal.Far else (if stopped then Some Refusal.Stopped else None)) None
-    → near ≡ true
+not_far : (near stopped : Bool) → ◌≡◌ {A = Option Refusal}
+    (if not near then Some Refusal.Far else (if stopped then Some Refusal.Stopped else None)) None → near ≡ true
 not_far near stopped e = grind arith
 
 -- what is not refused is near
 pub near_unless : (m : machine.Game) (which : ℕ) (flight : exact.Flight)
-    → slice_get m.flights which ≡ Some flight
-    → refused_flight m (slice_get m.flights which) ≡ None
+    → slice_get m.flights which ≡ Some flight → refused_flight m (slice_get m.flights which) ≡ None
     → is_near (made flight.to (m.nodes flight.to)) flight ≡ true
 near_unless m which flight there free = not_far _ _ (ap (refused_flight m) (sym there) ∙ free)
 
@@ -107,8 +99,7 @@ module _ {W S : Type 0} (state : W → S) (rules : Rules S) (g : Contents W) (m 
   where
     -- a refused event changes nothing
     pub after_refused : (refusal : Refusal) → Some refusal ≡ refused rules.players m event
-        → Represents state rules g m
-        → IsAfter state rules g (applied rules m event) (Err refusal)
+        → Represents state rules g m → IsAfter state rules g (applied rules m event) (Err refusal)
     after_refused refusal is r =
         rw (applied_so rules m event (Some refusal) is) (record { game = r; answered = refl })
 
@@ -125,8 +116,7 @@ pub after_send : {W S : Type 0} (state : W → S) (rules : Rules S) (old : Conte
     (new : Contents W) (event : Event) (node to : ℕ) (answer : Result Done Refusal)
     → event ≡ Send node to → None ≡ refused rules.players m event
     → ((done : Done) × (answer ≡ Ok done) × IsAfter state rules new (on_event rules m (Send node to)) done)
-    ⊎ IsLeftOut old new true answer
-    → IsApplied state rules old new m event answer
+    ⊎ IsLeftOut old new true answer → IsApplied state rules old new m event answer
 after_send state rules old m new event node to answer same is (inl (done, answered, after)) =
     inl (rw answered (after_event state rules new m event (Send node to) same done is after))
 after_send state rules old m new event node to answer same is (inr left) =
@@ -147,8 +137,7 @@ after_step {W} state rules g m event named place old new next answer done r told
     is =
     let below = names (subst (IsAddressed g) same there) in
     let after = steps (node_at state rules g m r place old below read) in
-    after_event state rules _ m event named same (done answer) told
-    (rw is (record {
+    after_event state rules _ m event named same (done answer) told (rw is (record {
       game = places state rules g m place new next.0 r below after.node;
       answered = ap done after.answer;
     }))

@@ -1,6 +1,5 @@
 -- A packet that is delivered as soon as it is sent, and a round of such packets.
-use Rattle.std.proofs.Common.{◌≡◌, ◌≢◌, ℕ, zero, suc, List, [], ◌∷◌, map, ◌<◌, ◌+◌, append_assoc, true, false, true≢false, ◌∙◌, ◌++◌, ◌^◌, length, Result, Ok, Err, refl, ap, sym, subst, inl, inr, arith}
-use Rattle.std.specs.Prelude.{OnErr}
+use Rattle.std.proofs.Common.{◌≡◌, ◌≢◌, ℕ, zero, suc, List, [], ◌∷◌, map, ◌<◌, ◌+◌, append_assoc, true, false, true≢false, ◌∙◌, ◌++◌, ◌^◌, length, Result, Ok, Err, refl, ap, sym, subst, inl, inr, arith, OnErr}
 use Rattle.dn_tic.specs.{declared.input.Input.Input, declared.input.Input.TheVariants.{Pressed, Given}, Inputs.input_of}
 use Rattle.dn_machine.specs.{declared.events.Done.Done, declared.events.Event.Event, declared.events.Event.TheVariants.{Send, Deliver, Run}, declared.events.Refusal.Refusal, Game.Game, Runs.is_send, Progress.{after, build_of, in_order, exchange, turn}}
 use Rattle.dn_machine.specs.{Worlds.Rules}
@@ -147,11 +146,9 @@ module _ {W S : Type 0} (state : W → S) (rules : Rules S) where
   pub turn_idle : (node : ℕ) (input : Input) (m : Game) (old begun asked new : Contents W)
       → KeepsIdleWorlds rules m (build_of node input ∷ []) old begun → KeepsFlights begun new
       → HasTaken (exchange rules node) (exchange_events node) (after rules (build_of node input) m)
-      rules.players begun asked → KeepsFlights asked new
-      → KeepsIdleWorlds rules
+      rules.players begun asked → KeepsFlights asked new → KeepsIdleWorlds rules
       (in_order (exchange rules node) rules.players (after rules (build_of node input) m)) (Run node ∷ [])
-      asked new
-      → KeepsIdleWorlds rules m (turn_events rules (λ me. input) m node) old new
+      asked new → KeepsIdleWorlds rules m (turn_events rules (λ me. input) m node) old new
   turn_idle node input m old begun asked new first all taken some last =
       let mid = after rules (build_of node input) m in
       let sends = events_in_order (exchange rules node) (exchange_events node) rules.players mid in

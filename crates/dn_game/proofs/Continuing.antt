@@ -4,6 +4,7 @@ use Rattle.dn_game.proofs.{Standing.{window_of, swift_of, packet_of, there_is}, 
 use Rattle.dn_setup.specs.Settings.{Settings}
 use Rattle.dn_machine.specs.{declared.events.Done.Done, Limits.Limits, declared.events.Event.Event, declared.events.Refusal.Refusal, Game.{Game, opening_game}, Node.is_ended, Progress.good_rounds, Running.tic_limit, Worlds.Rules}
 use Rattle.dn_machine.proofs.{Invariant.IsKept, Progress.goes_on_with, Games.always}
+use Rattle.dn_machine.proofs.Promises
 use Rattle.dn_node.specs.declared.node.Node.{Node}
 use Rattle.dn_game.specs.{declared.going_on.PlayOnFault.PlayOnFault, declared.going_on.PlayOnFault.TheVariants.Round, declared.rounds.RoundFault.RoundFault, declared.played.Played.Played, Contents.{Contents, contents, Represents}}
 use Rattle.dn_game.specs.{GoingOn.{NoneLost, AllRan, HasRoom, GoesOn, HasGoneOn, HasPlayedOn}, Played.{Answers, IsPlayedFrom, IsReachedWith}, Promised.IsReached, Agreed.HasNode}
@@ -11,7 +12,6 @@ use Rattle.dn_game.specs.{Frame.KeepsFlights, Rounds.{KeepsIdleWorlds, answers_t
 use Rattle.dn_lockstep.proofs.Shown.{started, end_is}
 use Rattle.dn_tic.specs.declared.input.Input.{Input}
 use Rattle.dn_machine.specs.Progress as machine
-use Rattle.dn_machine.proofs.Promises
 use Rattle.dn_node.specs.Contents as node
 
 -- one answer tells of one fault
@@ -22,8 +22,7 @@ same_round one other answer is same = cc
 module _ {W S : Type 0} (state : W → S) (rules : Rules S) (settings : Settings) where
   module _ (g : Contents W) (m : Game) (r : Represents state rules g m) where
     -- the node of a player
-    node_of : (i : ℕ) → i < rules.players
-        → (n : Node W) × HasNode g i (node.contents n)
+    node_of : (i : ℕ) → i < rules.players → (n : Node W) × HasNode g i (node.contents n)
         × node.Represents state rules i (node.contents n) (m.nodes i)
     node_of i below =
         let found = there_is g.nodes i (omega (arith, below, r.players)) in
@@ -63,8 +62,7 @@ module _ {W S : Type 0} (state : W → S) (rules : Rules S) (settings : Settings
         inr (player, its, told.0, omega (arith, told.1, before), few)
 
   ran_all : (g later : Contents W) (m last : Game) → Represents state rules g m
-      → Represents state rules later last → (tics : ℕ)
-      → machine.AllRan rules m last tics → AllRan g later tics
+      → Represents state rules later last → (tics : ℕ) → machine.AllRan rules m last tics → AllRan g later tics
   ran_all g later m last r s tics all i n k (one, at, is) there (other, its, so) =
       let before = r.nodes i one at in
       let after = s.nodes i other its in

@@ -1,16 +1,13 @@
 -- What the step of one node leaves as it is, and the limits of demos with it.
-use Rattle.std.proofs.Common.{◌≡◌, ◌≢◌, ◌++◌, ℕ, zero, suc, List, [], ◌∷◌, Option, Some, Result, Ok, append-nil, map, set, ap, sym, ◌∙◌, refl, subst}
-use Rattle.std.specs.Prelude.{slice_get, slice_index_or}
-use Rattle.std.specs.List.{All}
+use Rattle.std.proofs.Common.{◌≡◌, ◌≢◌, ◌++◌, ℕ, zero, suc, List, [], ◌∷◌, Option, Some, Result, Ok, append-nil, map, set, ap, sym, ◌∙◌, refl, subst, slice_get, slice_index_or, All}
 use Rattle.std.proofs.Math.Seq.{map-set_same}
 use Rattle.std.proofs.lemmas.List.Elements.{All-nil, All-cons, All-head, All-tail, All-map}
 use Rattle.dn_machine.specs.{declared.answers.Ran.Ran, declared.events.Done.Done, declared.events.Event.Event, declared.events.Refusal.Refusal}
 use Rattle.dn_lockstep.specs.Contents.{Whose}
-use Rattle.dn_node.specs.declared.node.Node.{Node}
+use Rattle.dn_node.specs.{declared.node.Node.Node, Contents.{contents, whose, whose_of}}
 use Rattle.dn_game.specs.{declared.flight.Flight.Flight, Contents.Contents, Frame.{KeepsRest, MovesNoWorld, named_by}}
 use Rattle.dn_game.specs.Opening.{worlds_of, AreLimited}
 use Rattle.dn_node.specs.Contents as node
-use Rattle.dn_node.specs.Contents.{contents, whose, whose_of}
 
 -- what stands elsewhere stays
 pub slice_get-set_other : {X : Type 0} (xs : List X) (i j : ℕ) (y : X) → j ≢ i

@@ -1,6 +1,5 @@
 -- One node more in a game that opens.
-use Rattle.std.proofs.Common.{◌≡◌, ℕ, zero, suc, ◌⊎◌, false, List, [], ◌∷◌, ◌++◌, length, map, append-nil, Some, sym, refl, inl, inr, arith}
-use Rattle.std.specs.Prelude.{slice_get}
+use Rattle.std.proofs.Common.{◌≡◌, ℕ, zero, suc, ◌⊎◌, false, List, [], ◌∷◌, ◌++◌, length, map, append-nil, Some, sym, refl, inl, inr, arith, slice_get}
 use Rattle.std.proofs.lemmas.{List.{append_assoc, map_push, nil_from_length}, Option.same_Some}
 use Rattle.dn_setup.specs.Settings.{Settings}
 use Rattle.dn_machine.specs.{Game.opening_game, Worlds.Rules}
@@ -22,8 +21,7 @@ pub each_more : {A : Type 0} (P : ℕ → A → Type 0) (xs : List A) (y : A)
 each_more P xs y before one k x there = grind (arith, slice_get-more)
 
 pub opens : {W S : Type 0} (state : W → S) (rules : Rules S) (vanilla : represents.IsVanilla rules.limits)
-    (settings : Settings) (nodes : List (Node W))
-    (flights : List Flight)
+    (settings : Settings) (nodes : List (Node W)) (flights : List Flight)
     → length nodes ≡ rules.players → AreFresh state rules settings nodes → flights ≡ []
     → represents.Represents state rules
     (record { nodes = nodes; stopped = false ∷ false ∷ false ∷ false ∷ []; flights = flights })

@@ -1,6 +1,5 @@
 -- A node that did not start has the world that was given for it.
-use Rattle.std.proofs.Common.{◌≡◌, ◌≢◌, ◌⊎◌, ◌++◌, ℕ, zero, suc, List, [], ◌∷◌, Option, Some, None, Result, length, ap, sym, ◌∙◌, refl, inl, inr}
-use Rattle.std.specs.{Prelude.slice_get, Option.option_map}
+use Rattle.std.proofs.Common.{◌≡◌, ◌≢◌, ◌⊎◌, ◌++◌, ℕ, zero, suc, List, [], ◌∷◌, Option, Some, None, Result, length, ap, sym, ◌∙◌, refl, inl, inr, slice_get, option_map}
 use Rattle.std.proofs.lemmas.{Bool.cases_eq, Option.{none-some, same_Some, slice_get-map}}
 use Rattle.dn_machine.specs.{declared.events.Done.Done, declared.events.Event.Event, declared.events.Event.TheVariants.{Build, Give, Send, Deliver, Run, Quit, Stop}, declared.events.Refusal.Refusal}
 use Rattle.dn_node.specs.declared.node.Node.{Node}

@@ -1,12 +1,11 @@
 -- The first player who has not stopped.
-use Rattle.std.proofs.Common.{◌≡◌, ◌<◌, ◌≤◌, ◌-◌, ◌%◌, ◌^◌, ℕ, true, false, length, Option, ap, ◌∙◌, arith, ◌+◌, Bool, not, Some, None, subst, inl, inr}
-use Rattle.std.specs.{Prelude.{slice_get, is_none, min, slice_index_or}}
+use Rattle.std.proofs.Common.{◌≡◌, ◌<◌, ◌≤◌, ◌-◌, ◌%◌, ◌^◌, ℕ, true, false, length, Option, ap, ◌∙◌, arith, ◌+◌, Bool, not, Some, None, subst, inl, inr, slice_get, is_none, min}
 use Rattle.std.proofs.lemmas.{List.length-map, Bool.{cases_lt, not-false}}
 use Rattle.std.proofs.Math.Nat.{mod-eq_of_lt, add-mod_right}
 use Rattle.dn_machine.specs.{declared.events.Event.TheVariants.{Deliver, Run}, declared.events.Refusal.Refusal, Game.{Game, refused_flight}, Worlds.Rules, Node.lowest}
 use Rattle.dn_game.specs.{Contents.{Contents, Represents, flight_of}, Schedule.{delivery_or_run, event_of, first_moving}}
 use Rattle.dn_machine.proofs.Truth.{lowest_none_each}
-use Rattle.dn_lockstep.proofs.Lowest.{lowest_past, lowest_found, lowest_same}
+use Rattle.dn_lockstep.proofs.Lowest.{lowest_past, lowest_found}
 
 module _ (players from : ℕ) (stopped : ℕ → Bool) where
   -- the player this many numbers on has not stopped
@@ -35,32 +34,22 @@ reached players from node f n = elim (cases_lt node from) [
       let whole : from + (node + players - from) ≡ node + players = omega arith in (
         node + players - from,
         omega arith,
-        ap (λ (k : ℕ). k % players) whole ∙ add-mod_right node players
-            ∙ mod-eq_of_lt n,
+        ap (λ (k : ℕ). k % players) whole ∙ add-mod_right node players ∙ mod-eq_of_lt n,
       )
 ]
 
 pub all_stopped : (players from : ℕ) (stopped : ℕ → Bool) → from < players
-    → lowest players (moves players from stopped) ≡ None
-    → (node : ℕ) → node < players → stopped node ≡ true
+    → lowest players (moves players from stopped) ≡ None → (node : ℕ) → node < players → stopped node ≡ true
 all_stopped players from stopped f none node n =
     let there = reached players from node f n in
     subst (λ k. stopped k ≡ true) there.2
     (not-false _ (lowest_none_each players (moves players from stopped) none there.0 there.1))
 
--- the machine's first player who moves is that of a game that represents it
-pub same_moving : {W S : Type 0} (state : W → S) (rules : Rules S) (g : Contents W) (m : Game)
-    → Represents state rules g m
-    → (from : ℕ) → first_moving (length g.nodes) (λ p. slice_index_or g.stopped p false) from
-    ≡ first_moving rules.players m.stopped from
-same_moving state rules g m r from = grind (arith, lowest_same)
-
 -- The delivery that a schedule gives, or the run in its place, by what was looked at.
 
 -- as many packets as flights
 pub flights_are : {W S : Type 0} (state : W → S) (rules : Rules S) (g : Contents W) (m : Game)
-    → Represents state rules g m
-    → length g.flights ≡ length m.flights
+    → Represents state rules g m → length g.flights ≡ length m.flights
 flights_are state rules g m r = ap length r.flights ∙ length-map m.flights flight_of
 
 -- the recent packet that was looked at, by its number, and why it is refused, if it is

@@ -1,19 +1,17 @@
 -- What was promised of a game says the headline, by what its nodes show.
-use Rattle.std.proofs.Common.{◌≡◌, ◌≢◌, ℕ, true, List, [], length, Some, ap, refl, sym, ◌∙◌, arith}
-use Rattle.std.specs.Prelude.{fold, nat_lt, ◌||◌, slice_get}
+use Rattle.std.proofs.Common.{◌≡◌, ◌≢◌, ℕ, true, List, [], length, Some, ap, refl, sym, ◌∙◌, arith, fold, nat_lt, ◌||◌, slice_get}
 use Rattle.dn_setup.specs.Settings.{Settings, start_of}
 use Rattle.dn_demo.specs.{Layout.long_tics, Text.demo_text}
-use Rattle.dn_machine.specs.{declared.events.Event.Event, Headline.{Shown, whole_rows}, Limits.Limits, Worlds.{Rules, opening}}
-use Rattle.dn_machine.specs.Node.{Node, got, is_ended}
+use Rattle.dn_machine.specs.{declared.events.Event.Event, Headline.{Headline, Shown, shown_by, whole_rows}, Limits.Limits, Worlds.{Rules, opening}}
+use Rattle.dn_machine.specs.{Node.{Node, got, is_ended}, declared.answers.Phase.TheVariants.Playing}
 use Rattle.dn_machine.proofs.{Games.always, Invariant.IsKept}
 use Rattle.dn_machine.proofs.Promises
-use Rattle.dn_lockstep.specs.{Agreed.recorded, Rows.seats_of}
+use Rattle.dn_lockstep.specs.{Agreed.{recorded, recorded_in}, Rows.seats_of}
 use Rattle.dn_lockstep.proofs.Shown.{has, started, starts}
-use Rattle.dn_machine.specs.declared.answers.Phase.TheVariants.{Playing}
 use Rattle.dn_node.specs.{Contents.{contents, locked}, Kept.Kept}
 use Rattle.dn_node.specs.Contents as node
 use Rattle.dn_node.proofs.Running.{world_played}
-use Rattle.dn_game.specs.{Agreed.{lockstep_in, lockstep_at}, Contents.Contents, Headline.{HaveAgreed, Shows, recorded_in}, Promised.IsReached}
+use Rattle.dn_game.specs.{Agreed.{lockstep_in, lockstep_at}, Contents.Contents, Headline.{HaveAgreed, Shows}, Promised.IsReached}
 use Rattle.dn_game.proofs.Standing.{window_of}
 use Rattle.dn_game.proofs.Agreeing as agreeing
 
@@ -34,8 +32,7 @@ module _ {W S : Type 0} (state : W → S) (rules : Rules S) (settings : Settings
   text_is begun = let played = plays begun in let known = chosen played in grind arith
 
   pub shows : rules.limits.places ≡ 12 → (m.phase ≡ Playing → m.played ≡ true) → (demo : List ℕ)
-      → demo ≡ recorded_in n.demo.bytes
-      → Shows state rules.physics settings rules.players me n
+      → demo ≡ recorded_in n.demo.bytes → Shows state rules.physics settings rules.players me n
       (record { phase = m.phase; rows = m.rows; got = got m; demo = demo })
   shows twelve playing demo is = record {
     phase = sym r.lockstep.stands.phase;
@@ -75,9 +72,21 @@ module _ {W S : Type 0} (state : W → S) (rules : Rules S) (settings : Settings
       → recorded (lockstep_at g i) ≡ recorded_in n.demo.bytes
   recorded_there i n at = ap recorded (ap lockstep_in at)
 
+  pub rows_agree : Headline rules.players (λ i. shown_by rules.players (r.last.nodes i))
+  rows_agree =
+      let all = Promises.headline rules settings r.last kept in
+      record {
+        same = all.same;
+        ring = omega arith;
+        unread = λ q p k l. omega (arith, all.unread q p k l, five);
+        lacked = λ q p two goes_on. omega (arith, all.lacked q p two goes_on, five);
+        ahead = λ p k. omega (arith, all.ahead p k, five);
+        consistent = all.consistent;
+        demos = all.demos;
+      }
+
   pub have_agreed : HaveAgreed state rules.physics settings rules.players g
   have_agreed =
-      let all = Promises.headline rules settings r.last kept in
       record {
         places = r.game.players;
         shown = shown_at;
@@ -86,12 +95,12 @@ module _ {W S : Type 0} (state : W → S) (rules : Rules S) (settings : Settings
             (kept.sound i (agreeing.inside state rules g r.last r.game i (contents n) (n, at, refl))).playing
             (recorded (lockstep_at g i)) (recorded_there i n at);
         headline = record {
-          same = all.same;
-          ring = omega arith;
-          unread = λ q p k l. omega (arith, all.unread q p k l, five);
-          lacked = λ q p two goes_on. omega (arith, all.lacked q p two goes_on, five);
-          ahead = λ p k. omega (arith, all.ahead p k, five);
-          consistent = all.consistent;
+          same = rows_agree.same;
+          ring = rows_agree.ring;
+          unread = rows_agree.unread;
+          lacked = rows_agree.lacked;
+          ahead = rows_agree.ahead;
+          consistent = rows_agree.consistent;
           demos = (agreeing.agreed state rules settings events g r).locksteps.demos.prefixes;
         };
       }

@@ -1,6 +1,5 @@
 -- An event that is applied leads from what a game was to what it is.
-use Rattle.std.proofs.Common.{◌≡◌, ◌<◌, ℕ, length, set, None, Result, Ok, inl}
-use Rattle.std.specs.Prelude.{slice_index_or}
+use Rattle.std.proofs.Common.{◌≡◌, ◌<◌, ℕ, length, set, None, Result, Ok, inl, slice_index_or}
 use Rattle.dn_world.specs.Physics.{Physics}
 use Rattle.dn_machine.specs.{declared.events.Done.Done, declared.events.Event.Event, declared.events.Refusal.Refusal, Game.{with_node, Game, on_event, opening_game, refused}, Limits.Limits, Worlds.{rules_of, rules_within}}
 use Rattle.dn_machine.proofs.Games.{goes_on}

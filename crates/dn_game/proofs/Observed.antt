@@ -1,6 +1,5 @@
 -- One event more that an observer is told.
-use Rattle.std.proofs.Common.{◌≡◌, ◌+◌, ℕ, List, [], ◌∷◌, ◌++◌, Some, Result, refl, ap, ◌∙◌, length-append, length, arith}
-use Rattle.std.specs.Prelude.{count_by, is_ok, is_err}
+use Rattle.std.proofs.Common.{◌≡◌, ◌+◌, ℕ, List, [], ◌∷◌, ◌++◌, Some, Result, refl, ap, ◌∙◌, length-append, length, arith, count_by, is_ok, is_err}
 use Rattle.rand_pcg.specs.Lcg.{Lcg}
 use Rattle.dn_setup.specs.Settings.{Settings}
 use Rattle.dn_machine.specs.{declared.events.Done.Done, declared.events.Event.Event, declared.events.Refusal.Refusal, Game.{Game, opening_game, refused}, Worlds.Rules}
@@ -21,14 +20,11 @@ module _ {S : Type 0} (rules : Rules S) where
   follows_more generator [] (a ∷ answers) event answer rest game mid last way given next = absurd way
   follows_more generator (e ∷ events) [] event answer rest game mid last way given next = absurd way
   follows_more generator (e ∷ events) (a ∷ answers) event answer rest game mid last (first, (then, one, way))
-      given next = (
-        first,
-        (
-          then,
-          one,
-          follows_more (behind_three generator) events answers event answer rest then mid last
-              way given next,
-        ),
+      given next =
+      grind (
+        arith,
+        follows_more (behind_three generator) events answers event answer rest then mid last way
+            given next,
       )
 
   pub follows_plays : (generator : Lcg) (events : List Event) (answers : List (Result Done Refusal))
@@ -74,12 +70,13 @@ module _ {L : Type 0} (observes : Observing L) where
   observes_more [] [] event answer number last old mid new same counted told = grind arith
   observes_more [] (a ∷ answers) event answer number last old mid new way counted told = absurd way
   observes_more (e ∷ events) [] event answer number last old mid new way counted told = absurd way
-  observes_more (e ∷ events) (a ∷ answers) event answer number last old mid new (then, one, way) counted
-      told = (
-        then,
-        one,
-        observes_more events answers event answer (number + 1) last then mid new way
-            (omega (arith, counted)) told,
+  observes_more (e ∷ events) (a ∷ answers) event answer number last old mid new (then, one, way) counted told =
+      grind (
+        arith,
+        observes_more events answers event answer (number + 1) last then mid new way (omega (
+          arith,
+          counted,
+        )) told,
       )
 
 -- and what it was told of led to games that agree
@@ -97,8 +94,7 @@ module _ {W S : Type 0} (state : W → S) (rules : Rules S) (settings : Settings
       → HaveAgreed state rules.physics settings rules.players (contents played.game)
   stormed_agrees seed count run =
       let plays = follows_plays rules (generator_of seed) run.events run.answers run.rest (opening_game settings)
-      run.last
-      run.follows in
+      run.last run.follows in
       have_agreed state rules settings run.events (contents played.game) (record {
         last = run.last;
         run = plays_leads rules run.events run.answers (opening_game settings) run.last plays;

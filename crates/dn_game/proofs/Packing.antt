@@ -1,6 +1,5 @@
 -- A packet joins the pool, and is read from it.
-use Rattle.std.proofs.Common.{◌≡◌, ◌≤◌, ◌<◌, ◌++◌, ◌∷◌, [], ℕ, List, length, take, drop, Some, refl, ap, ◌∙◌, arith, length-append, length-drop}
-use Rattle.std.specs.Prelude.{All, slice_get}
+use Rattle.std.proofs.Common.{◌≡◌, ◌≤◌, ◌<◌, ◌++◌, ◌∷◌, [], ℕ, List, length, take, drop, Some, refl, ap, ◌∙◌, arith, length-append, length-drop, All, slice_get}
 use Rattle.std.proofs.Math.Seq.{drop-append_seam, take-length}
 use Rattle.std.proofs.lemmas.{Grind.flat_map-append, List.{drop-append-le, take-append-le, append-nil, map_push}, List.Elements.{All-head, All-tail, All-push}}
 use Rattle.arrayvec.specs.ArrayVec.{ArrayVec}
@@ -12,14 +11,7 @@ module _ (bytes more : List ℕ) where
   -- a piece is the same where bytes are appended
   flight_stays : (entry : Record) → IsPiece bytes entry
       → flight_in (bytes ++ more) entry ≡ flight_in bytes entry
-  flight_stays entry piece =
-      let inside = piece.inside in
-      let long = length-drop entry.place bytes in
-      let same : take entry.length (drop entry.place (bytes ++ more))
-      ≡ take entry.length (drop entry.place bytes) =
-      ap (take entry.length) (drop-append-le entry.place bytes more (omega arith))
-      ∙ take-append-le entry.length (drop entry.place bytes) more (omega arith) in
-      λ i. record { from = entry.from; to = entry.to; aim = entry.aim; bytes = record { items = same i } }
+  flight_stays entry piece = grind (arith, length-drop, take, drop, drop-append-le, take-append-le)
 
   flights_stay : (records : List Record) → All (IsPiece bytes) records
       → flights_in (bytes ++ more) records ≡ flights_in bytes records
@@ -30,9 +22,7 @@ module _ (bytes more : List ℕ) where
       λ i. first i ∷ rest i
 
   pieces_stay : (records : List Record) → All (IsPiece bytes) records → All (IsPiece (bytes ++ more)) records
-  pieces_stay records all = λ i d within.
-      let piece = all i d within in
-      record { inside = omega (arith, piece.inside, length-append bytes more); short = piece.short }
+  pieces_stay records all = grind (arith, length-append)
 
 -- the record of a packet whose datagram is appended
 abbrev pub newest : List ℕ → ℕ → ℕ → Aim → List ℕ → Record
@@ -54,11 +44,9 @@ module _ (bytes : List ℕ) (records : List Record) (packed : ArePacked bytes re
       let long = length-append bytes datagram in
       record {
         pieces = All-push (IsPiece (bytes ++ datagram)) records (newest bytes from to aim datagram)
-            (pieces_stay bytes datagram records packed.pieces)
-            (record { inside = omega arith; short = short });
+            (pieces_stay bytes datagram records packed.pieces) (record { inside = omega arith; short = short });
         whole = ap joined packs_flight ∙ flat_map-append (λ (f : Flight). f.bytes.items)
-            (flights_in bytes records) _
-            ∙ (λ i. packed.whole i ++ append-nil datagram i);
+            (flights_in bytes records) _ ∙ (λ i. packed.whole i ++ append-nil datagram i);
       }
 
 -- a flight is what its record and its datagram tell

@@ -1,8 +1,6 @@
 -- Good rounds are their events, applied one after another, and the room that packets take.
-use Rattle.std.proofs.Common.{◌≡◌, ◌+◌, ◌++◌, ℕ, suc, List, [], ◌∷◌, Result, length, append_assoc, append-nil, ap, sym, ◌∙◌, refl, subst, inl, inr, arith, ◌<◌, zero, ◌≤◌, ◌⊎◌, ◌*◌, length-append}
-use Rattle.std.specs.Prelude.{slice_get}
-use Rattle.std.proofs.lemmas.Bool.{cases_lt}
-use Rattle.std.proofs.lemmas.Grind.{flat_map-append}
+use Rattle.std.proofs.Common.{◌≡◌, ◌+◌, ◌++◌, ℕ, suc, List, [], ◌∷◌, Result, length, append_assoc, append-nil, ap, sym, ◌∙◌, refl, subst, inl, inr, arith, ◌<◌, zero, ◌≤◌, ◌⊎◌, ◌*◌, length-append, slice_get}
+use Rattle.std.proofs.lemmas.{Bool.cases_lt, Grind.flat_map-append}
 use Rattle.dn_machine.specs.{declared.events.Done.Done, declared.events.Event.Event, declared.events.Refusal.Refusal, Game.{Game}, Worlds.Rules}
 use Rattle.dn_machine.specs.{Progress.{after, in_order, exchange, turn, good_round, good_rounds}}
 use Rattle.dn_game.specs.{declared.flight.Flight.Flight, Applied.IsApplied, Contents.{Contents, contents}, Frame.{KeepsFlights, KeepsRest, MovesNoWorld, KeepsGiven}, Opening.worlds_of}
@@ -35,8 +33,7 @@ module _ {S : Type 0} (rules : Rules S) where
       (after rules event game, inl (refl, refl), plays_all events (after rules event game))
 
   pub after_in_order : (step : Game → ℕ → Game) (events : Game → ℕ → List Event)
-      → ((game : Game) (i : ℕ) → after_all rules (events game i) game ≡ step game i)
-      → (bound : ℕ) (game : Game)
+      → ((game : Game) (i : ℕ) → after_all rules (events game i) game ≡ step game i) → (bound : ℕ) (game : Game)
       → after_all rules (events_in_order step events bound game) game ≡ in_order step bound game
   unfolding in_order
   after_in_order step events each zero game = refl
@@ -44,8 +41,7 @@ module _ {S : Type 0} (rules : Rules S) where
 
   -- the events of one step among those of all
   pub events_split : (step : Game → ℕ → Game) (events : Game → ℕ → List Event) (i bound : ℕ) (game : Game)
-      → i < bound
-      → (rest : List Event) × (events_in_order step events bound game
+      → i < bound → (rest : List Event) × (events_in_order step events bound game
       ≡ events_in_order step events i game ++ (events (in_order step i game) i ++ rest))
   events_split step events i zero game below = absurd (omega arith)
   events_split step events i (suc bound) game below = elim (cases_lt i bound) [
@@ -147,8 +143,7 @@ module _ {W S : Type 0} (rules : Rules S) where
       (old new : Contents W) → KeepsRest old new event answer → IsApplied state rules old new m event answer
       → KeepsIdleWorlds rules m (event ∷ []) old new
   idle_one state m event answer old new left (inl done) i never =
-      stays_at old new event answer left i
-      (λ is. subst MovesNoWorld (sym done.answered)
+      stays_at old new event answer left i (λ is. subst MovesNoWorld (sym done.answered)
       (never 0 event _ refl refl (rw left.more.1 (named_stays old.flights left.more.0 event i is))))
   idle_one state m event answer old new left (inr (free, out)) i never =
       ap (λ (g : Contents W). slice_get (worlds_of g.nodes) i) out.same
@@ -162,9 +157,7 @@ grown_within count more room bound before twice = grind arith
 
 step_within : (count more old new bound : ℕ) → old ≤ bound → 2 * count + more ≤ bound
     → (new ≡ old) ⊎ (new ≡ grown count more old) → new ≤ bound
-step_within count more old new bound before twice (inl same) = rw same before
-step_within count more old new bound before twice (inr more_room) =
-    rw more_room (grown_within count more old bound before twice)
+step_within count more old new bound before twice h = grind (arith, grown_within)
 
 -- packets that were sent, and more after them
 pub stays_within : (flights more now : List Flight) (old new : Room) → IsWithinTwice flights old
@@ -178,8 +171,7 @@ stays flights now old new grows more within = stays_within flights more.0 now ol
 
 -- a game goes on while nothing happens
 pub continues_same : {W : Type 0} (g : GameOf W) → Continues g g
-continues_same g =
-    record { whose = refl; grown = λ within. within; more = flights_same (contents g).flights }
+continues_same g = record { whose = refl; grown = λ within. within; more = flights_same (contents g).flights }
 
 -- by an event
 pub continues_one : {W : Type 0} (old new : GameOf W) → KeepsWhose (contents old) (contents new)

@@ -23,26 +23,13 @@ pub record AreDigits (word : List ℕ) (i number : ℕ) : Type 0 where
 -- before the last of nine digits the number is small
 pub few_digits : (word : List ℕ) (i number : ℕ) → AreDigits word i number → i < length word → number < 10 ^ 8
 few_digits word i number h within =
-    let few : i ≤ 8 = omega (arith, h.few) in
-    let len : length (take i word) ≡ i = length-take-le i word (omega arith) in
-    let small : digits_value 10 (take i word) < 10 ^ length (take i word) =
-    digits_value-lt 10 (take i word) h.digits in
-    let short : length (take i word) ≤ 8 = omega arith in
-    let low : 10 ^ length (take i word) ≤ 10 ^ 8 = pow-le-pow_right (omega arith) short in
-    omega (arith, h.value)
+    grind (arith, length, take, length-take-le, digits_value-lt, pow-le-pow_right)
 
 -- one digit more
 pub more_digits : (word : List ℕ) (i number : ℕ) → AreDigits word i number → i < length word
-    → IsInRange 48 57 (get_or word i 0)
-    → AreDigits word (i + 1) (10 * number + (get_or word i 0 - 48))
+    → IsInRange 48 57 (get_or word i 0) → AreDigits word (i + 1) (10 * number + (get_or word i 0 - 48))
 more_digits word i number h within digit =
-    let value = digit_value_digit (get_or word i 0) digit in
-    let more = digits_value_more 10 word i within in
-    record {
-      few = h.few;
-      digits = digits_more 10 word i within h.digits (omega arith);
-      value = omega (arith, h.value);
-    }
+    grind (arith, digit_value_digit, get_or, digits_value_more, digits_more)
 
 -- a word with another byte is no number
 pub not_number : (word : List ℕ) (i : ℕ) → i < length word → IsOutOfRange 48 57 (get_or word i 0) → (n : ℕ)
@@ -52,9 +39,7 @@ not_number word i within other n number = grind (arith, digit_at)
 -- a word of digits is a number
 pub whole_number : (word : List ℕ) (i number : ℕ) → AreDigits word i number → i ≡ length word
     → 1 ≤ length word → IsNumber word number
-whole_number word i number h all some =
-    let whole : take i word ≡ word = ap (λ n. take n word) all ∙ take-length word in
-    record { some = some; few = h.few; digits = rw whole at h.digits; value = rw whole at h.value }
+whole_number word i number h all some = grind (arith, take, take-length)
 
 -- Keys: each letter is that of one key, and letters are one set of keys.
 
@@ -105,15 +90,7 @@ pub record AreBits (word : List ℕ) (keys : ℕ) : Type 0 where
   pub set : (i : ℕ) → i < 18 → (bit_at keys i ≡ 1) ↔ Contains word (get_or letters i 0)
 
 no_bits : AreBits [] 0
-no_bits =
-    record {
-      below = lit< tt;
-      set =
-          λ i h. (
-            λ e. absurd (omega (arith, e, bit_at-zero i)),
-            λ (k, within, _). absurd (omega (arith, within)),
-          );
-    }
+no_bits = grind (arith, lit<, bit_at-zero)
 
 push_bits : (word : List ℕ) (keys byte place : ℕ) → AreBits word keys → place_in_letters byte ≡ Some place
     → AreBits (word ++ byte ∷ []) (bit_or keys (1 * 2 ^ place % 2 ^ 32))
@@ -150,12 +127,7 @@ pub record AreLettersUpTo (word : List ℕ) (i keys : ℕ) : Type 0 where
   pub bits : AreBits (take i word) keys
 
 pub no_letters : (word : List ℕ) → word ≢ codes "-" → 1 ≤ length word → AreLettersUpTo word 0 0
-no_letters word other some = record {
-  other = other;
-  some = some;
-  known = All-nil (Contains letters);
-  bits = no_bits;
-}
+no_letters word other some = grind (arith, All-nil, no_bits)
 
 pub more_letters : (word : List ℕ) (i keys place : ℕ) → AreLettersUpTo word i keys → i < length word
     → Some place ≡ place_in_letters (get_or word i 0)
@@ -173,8 +145,7 @@ more_letters word i keys place h within found =
     }
 
 pub not_keys : (word : List ℕ) (i keys : ℕ) → AreLettersUpTo word i keys → i < length word
-    → None ≡ place_in_letters (get_or word i 0)
-    → (k : ℕ) → ¬ AreKeys word k
+    → None ≡ place_in_letters (get_or word i 0) → (k : ℕ) → ¬ AreKeys word k
 not_keys word i keys h within no_letter k (inl minus) = h.other minus.0
 not_keys word i keys h within no_letter k (inr some) = letter_is_not _ _ (some.known i 0 within) (sym no_letter) refl
 
@@ -224,8 +195,7 @@ abbrev pub is_lacking : ℕ → List ℕ → Bool
 is_lacking byte text = list_all (λ b. not (eqb b byte)) text
 
 pub lacks : (byte : ℕ) (text : List ℕ) → is_lacking byte text ≡ true → Lacks byte text
-lacks byte text h =
-    λ i d within. not-true _ (AllPass-from_list_all (λ b. not (eqb b byte)) text h i d within)
+lacks byte text h = λ i d within. not-true _ (AllPass-from_list_all (λ b. not (eqb b byte)) text h i d within)
 
 pub number_lacks : (byte : ℕ) (word : List ℕ) (n : ℕ) → byte < 48 → IsNumber word n → Lacks byte word
 number_lacks byte word n small h i d within =
@@ -252,12 +222,8 @@ seconds_differ {v} {w} {x} {y} test e = eqb-false x y test (ap (λ s. get_or s 1
 -- a text has one first space
 pub one_cut : (a b c d : List ℕ) → HasNoSpace a → HasNoSpace b → a ++ 32 ∷ c ≡ b ++ 32 ∷ d → a ≡ b
 one_cut [] [] c d p q e = refl
-one_cut [] (y ∷ b) c d p q e =
-    let same : y ≡ 32 = cc in
-    absurd (eqb-false y 32 (All-head (λ z. eqb z 32 ≡ false) y b q) same)
-one_cut (x ∷ a) [] c d p q e =
-    let same : x ≡ 32 = cc in
-    absurd (eqb-false x 32 (All-head (λ z. eqb z 32 ≡ false) x a p) same)
+one_cut [] (y ∷ b) c d p q e = grind (arith, eqb-false, All-head, eqb, false)
+one_cut (x ∷ a) [] c d p q e = grind (arith, eqb-false, All-head, eqb, false)
 one_cut (x ∷ a) (y ∷ b) c d p q e =
     let same : x ≡ y = cc in
     let rest : a ++ 32 ∷ c ≡ b ++ 32 ∷ d = cc in
@@ -267,20 +233,12 @@ one_cut (x ∷ a) (y ∷ b) c d p q e =
 
 -- and one text behind it
 pub one_rest : (a b c d : List ℕ) → HasNoSpace a → HasNoSpace b → a ++ 32 ∷ c ≡ b ++ 32 ∷ d → c ≡ d
-one_rest a b c d p q e =
-    let front = one_cut a b c d p q e in
-    let same : a ++ 32 ∷ c ≡ a ++ 32 ∷ d = e ∙ ap (λ x. x ++ 32 ∷ d) (sym front) in
-    let rest : 32 ∷ c ≡ 32 ∷ d = append_cancel_left a (32 ∷ c) (32 ∷ d) same in
-    cc
+one_rest a b c d p q e = grind (arith, one_cut, append_cancel_left)
 
 -- a text is cut at its first space in one way
 pub one_way : (text a b n m : List ℕ) → HasNoSpace a → HasNoSpace n → text ≡ (a ++ codes " ") ++ b
-    → text ≡ (n ++ codes " ") ++ m
-    → (n ≡ a) × (m ≡ b)
-one_way text a b n m p q e f =
-    let both : a ++ 32 ∷ b ≡ n ++ 32 ∷ m = sym (append_assoc a (codes " ") b) ∙ sym e ∙ f
-    ∙ append_assoc n (codes " ") m in
-    (sym (one_cut a n b m p q both), sym (one_rest a n b m p q both))
+    → text ≡ (n ++ codes " ") ++ m → (n ≡ a) × (m ≡ b)
+one_way text a b n m p q e f = grind (arith, append_assoc, one_cut, one_rest)
 
 -- a text whose first word ends at a space, behind send and behind build
 module _ (text a b : List ℕ) (cut : HasNoSpace a) (whole : text ≡ (a ++ codes " ") ++ b) where
@@ -315,13 +273,10 @@ pub no_number : (verb word line : List ℕ) → is_lacking 32 verb ≡ true → 
 no_number verb word line p build send whole bad = go
   where
     cut : (other rest : List ℕ) → is_lacking 32 other ≡ true → line ≡ other ++ 32 ∷ rest → verb ≡ other
-    cut other rest q same =
-        one_cut verb other word rest (lacks 32 verb p) (lacks 32 other q) (sym whole ∙ same)
+    cut other rest q same = one_cut verb other word rest (lacks 32 verb p) (lacks 32 other q) (sym whole ∙ same)
 
     numbered : (other n : List ℕ) (k : ℕ) → is_lacking 32 other ≡ true → line ≡ other ++ 32 ∷ n → ¬ IsNumber n k
-    numbered other n k q same number =
-        let behind = one_rest verb other word n (lacks 32 verb p) (lacks 32 other q) (sym whole ∙ same) in
-        bad k (subst (λ w. IsNumber w k) (sym behind) number)
+    numbered other n k q same number = grind (arith, one_rest, lacks)
 
     go : (e : Event) → ¬ IsLineOf e line
     go (Build node keys) (n, k, _, _, same) = build (cut (codes "build") _ refl same)
@@ -336,15 +291,13 @@ no_number verb word line p build send whole bad = go
 
 -- a line more that is skipped, and one that is an event's
 AreEventsOf-skipped : {all : List (List ℕ)} {events : List Event} (line : List ℕ) → AreEventsOf all events
-    → IsSkipped line
-    → AreEventsOf (all ++ line ∷ []) events
+    → IsSkipped line → AreEventsOf (all ++ line ∷ []) events
 AreEventsOf-skipped line none s = skipped s none
 AreEventsOf-skipped line (skipped t more) s = skipped t (AreEventsOf-skipped line more s)
 AreEventsOf-skipped line (told t more) s = told t (AreEventsOf-skipped line more s)
 
 AreEventsOf-told : {all : List (List ℕ)} {events : List Event} (line : List ℕ) (event : Event)
-    → AreEventsOf all events → IsLineOf event line
-    → AreEventsOf (all ++ line ∷ []) (events ++ event ∷ [])
+    → AreEventsOf all events → IsLineOf event line → AreEventsOf (all ++ line ∷ []) (events ++ event ∷ [])
 AreEventsOf-told line event none s = told s none
 AreEventsOf-told line event (skipped t more) s = skipped t (AreEventsOf-told line event more s)
 AreEventsOf-told line event (told t more) s = told t (AreEventsOf-told line event more s)
@@ -367,19 +320,11 @@ module _ {text : List ℕ} {count number : ℕ} {events : List Event} {line : Li
       ∙ ap (λ l. take count (lines text) ++ l ∷ []) (sym n.here)
 
   pub more_skipped : IsSkipped line → HaveRead text (count + 1) (number + 1) events
-  more_skipped s = record {
-    short = h.short;
-    counted = omega (arith, h.counted);
-    good = rw taken (AreEventsOf-skipped line h.good s);
-  }
+  more_skipped s = grind (arith, taken, AreEventsOf-skipped)
 
   pub more_told : (event : Event) → IsLineOf event line
       → HaveRead text (count + 1) (number + 1) (events ++ event ∷ [])
-  more_told event s = record {
-    short = h.short;
-    counted = omega (arith, h.counted);
-    good = rw taken (AreEventsOf-told line event h.good s);
-  }
+  more_told event s = grind (arith, taken, AreEventsOf-told)
 
   stands : StandsBehind (lines text) line count
   stands =
@@ -402,8 +347,7 @@ module _ {text : List ℕ} {count number : ℕ} {events : List Event} {line : Li
   no_room event s = (h.short, (line, count, event, stands, s))
 
 pub all_read : {text : List ℕ} {count number : ℕ} {events : List Event} → HaveRead text count number events
-    → count ≡ length (lines text)
-    → IsReadAs text (Ok events)
+    → count ≡ length (lines text) → IsReadAs text (Ok events)
 all_read {text} {count} {number} {events} h all = grind (arith, take-length)
 
 pub nothing_read : {text : List ℕ} → length text ≤ size_limit → HaveRead text 0 0 []

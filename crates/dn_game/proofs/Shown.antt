@@ -1,24 +1,21 @@
 -- A game that was played shows the game of the machine that it represents.
-use Rattle.std.proofs.Common.{◌≡◌, ℕ, true, List, Some, Result, Ok, Err, ap, refl}
-use Rattle.std.specs.Prelude.{IfOk, slice_get}
+use Rattle.std.proofs.Common.{◌≡◌, ℕ, true, List, Some, Result, Ok, Err, ap, refl, IfOk, slice_get}
 use Rattle.dn_setup.specs.Settings.{Settings}
 use Rattle.dn_machine.specs.{declared.events.Event.Event, Game.opening_game, Limits.Limits, Worlds.Rules}
-use Rattle.dn_machine.specs.Node.{Node}
-use Rattle.dn_machine.specs.declared.answers.Phase.TheVariants.{Playing}
+use Rattle.dn_machine.specs.{Node.Node, declared.answers.Phase.TheVariants.Playing}
 use Rattle.dn_machine.proofs.{Games.always, Invariant.IsKept}
-use Rattle.dn_lockstep.proofs.Shown.{starts}
+use Rattle.dn_lockstep.{specs.Agreed.recorded_in, proofs.Shown.starts}
 use Rattle.dn_node.specs.{Contents.{contents, locked}, Kept.Kept}
 use Rattle.dn_node.specs.Contents as node
-use Rattle.dn_game.specs.{declared.played.Played.Played, Headline.recorded_in, Opening.AreLimited, Played.IsPlayedFrom, Promised.IsReached, Shown.{ShowsNode, ShowsRun}}
+use Rattle.dn_game.specs.{declared.played.Played.Played, Opening.AreLimited, Played.IsPlayedFrom, Promised.IsReached, Shown.{ShowsNode, ShowsRun}}
 use Rattle.dn_game.specs.Contents as game
-use Rattle.dn_game.proofs.{Answering.plays_leads, Headlines.{plays, shows}, Standing.{all_at, window_of}}
+use Rattle.dn_game.proofs.{Answering.plays_leads, Headlines.{plays, rows_agree, shows}, Standing.{all_at, window_of}}
 use Rattle.dn_game.proofs.Agreeing as agreeing
 
 module _ {W S : Type 0} (state : W → S) (rules : Rules S) (settings : Settings) (limit : ℕ) where
   shows_node : (me : ℕ) (n : Kept W) (m : Node) → node.Represents state rules me (contents n) m
       → (m.played ≡ true → m.settings ≡ Some settings) → (m.phase ≡ Playing → m.played ≡ true)
-      → rules.limits.places ≡ 12 → n.demo.limit ≡ limit
-      → ShowsNode state rules settings limit me n m
+      → rules.limits.places ≡ 12 → n.demo.limit ≡ limit → ShowsNode state rules settings limit me n m
   shows_node me n m r chosen playing twelve limited = record {
     players = r.lockstep.whose.players;
     number = r.lockstep.whose.number;
@@ -50,8 +47,7 @@ module _ {W S : Type 0} (state : W → S) (rules : Rules S) (settings : Settings
       → ShowsNode state rules settings limit i n (reached.last.nodes i)
   shows_reached events g reached i n at limited =
       let kept : IsKept rules settings reached.last = always rules settings (window_of rules.limits
-      reached.game.vanilla)
-      events reached.last reached.run in
+      reached.game.vanilla) events reached.last reached.run in
       shows_node i n (reached.last.nodes i) (reached.game.nodes i n at)
       (kept.sound i (agreeing.inside state rules g reached.last reached.game i (contents n) (n, at, refl))).played
       (kept.sound i (agreeing.inside state rules g reached.last reached.game i (contents n) (n, at, refl))).playing
@@ -75,6 +71,7 @@ module _ {W S : Type 0} (state : W → S) (rules : Rules S) (settings : Settings
         players = run.game.players;
         nodes = λ i n at. shows_reached events g reached i n at
             (all_at (λ (k : Kept W). k.demo.limit ≡ limit) g.nodes i n limited at);
+        headline = rows_agree state rules settings events g reached;
         stopped = run.game.stopped;
         flights = run.game.flights;
         given = given;

@@ -1,7 +1,5 @@
 -- What stands where in lists, and in a game that represents one of the machine.
-use Rattle.std.proofs.Common.{subst, sym, arith, ◌≡◌, ◌<◌, ℕ, List, [], ◌∷◌, length, Some, false, map, set, ◌∙◌, refl, ap}
-use Rattle.std.specs.Prelude.{All, slice_get, slice_index_or}
-use Rattle.std.specs.Option.{option_map}
+use Rattle.std.proofs.Common.{subst, sym, arith, ◌≡◌, ◌<◌, ℕ, List, [], ◌∷◌, length, Some, false, map, set, ◌∙◌, refl, ap, All, slice_get, slice_index_or, option_map}
 use Rattle.std.proofs.lemmas.Option.{slice_get_within, slice_get-get_or, get_or_from_slice_get, slice_get-map, slice_get_read}
 use Rattle.std.proofs.lemmas.List.{length-set, length-map}
 use Rattle.dn_machine.specs.{Limits.{Limits, IsWindow}, Progress.{IsSwift, GoesInto}}
@@ -87,22 +85,13 @@ module _ {W S : Type 0} (state : W → S) (rules : Rules S) (g : Contents W) (m 
 
 -- what it represents with other nodes, others who have stopped, or other packets
 pub moved : {W S : Type 0} (state : W → S) (rules : Rules S) (g : Contents W) (m : machine.Game)
-    → Represents state rules g m → (new : Contents W) (next : machine.Game)
-    → length new.nodes ≡ length g.nodes
+    → Represents state rules g m → (new : Contents W) (next : machine.Game) → length new.nodes ≡ length g.nodes
     → ((i : ℕ) (n : Node W) → slice_get new.nodes i ≡ Some n
     → node.Represents state rules i (node.contents n) (next.nodes i))
     → ((i : ℕ) → slice_index_or new.stopped i false ≡ next.stopped i)
     → new.flights ≡ map flight_of next.flights → All (IsCarried rules.players) next.flights
     → Represents state rules new next
-moved state rules g m r new next count nodes stopped flights carried =
-    record {
-      players = count ∙ r.players;
-      vanilla = r.vanilla;
-      nodes = nodes;
-      stopped = stopped;
-      flights = flights;
-      carried = carried;
-    }
+moved state rules g m r new next count nodes stopped flights carried = grind arith
 
 module _ {W S : Type 0} (state : W → S) (rules : Rules S) (g : Contents W) (m : machine.Game) (place : ℕ)
     (n : Node W) (after : exact_node.Node)

@@ -1,22 +1,18 @@
 -- The headline of a game that was played, by what the readers of its nodes return. It speaks of no packet, no event
 -- and no answer: what these do is said in `Promised`.
-use Rattle.std.specs.Prelude.{◌≡◌, ◌≢◌, ◌<◌, ◌*◌, ℕ, [], List, ◌||◌, fold, length, nat_lt, take, drop, slice_get, Some}
+use Rattle.std.specs.Prelude.{◌≡◌, ◌≢◌, ◌<◌, ℕ, [], List, ◌||◌, fold, length, nat_lt, slice_get, Some}
 use Rattle.dn_setup.specs.Settings.{Settings, start_of}
 use Rattle.dn_world.specs.Physics.{Physics}
-use Rattle.dn_demo.specs.Layout.{long_tics, command_size}
-use Rattle.dn_demo.specs.Places.{commands_in}
-use Rattle.dn_demo.specs.Text.{demo_text, header_size}
+use Rattle.dn_demo.specs.Layout.{long_tics}
+use Rattle.dn_demo.specs.Text.{demo_text}
 use Rattle.dn_machine.specs.Headline.{Headline, Shown, ran_by, whole_rows}
 use Rattle.dn_machine.specs.Node.{is_ended}
 use Rattle.dn_machine.specs.declared.answers.Phase.TheVariants.{Playing}
+use Rattle.dn_lockstep.specs.Agreed.{recorded_in}
 use Rattle.dn_lockstep.specs.Tables.{ring_at}
 use Rattle.dn_lockstep.specs.Rows.{seats_of}
 use Rattle.dn_node.specs.Kept.{Kept}
 use Rattle.dn_game.specs.Contents.{Contents}
-
--- the commands of a demo: what stands behind the header in whole commands, so without the marker of a closed one
-abbrev pub recorded_in : List ℕ → List ℕ
-recorded_in demo = take (command_size long_tics * commands_in long_tics demo) (drop header_size demo)
 
 -- A node of a game of these settings shows this: its readers return it, and the rows are those by which its world
 -- was stepped and its demo was written.

@@ -9,16 +9,17 @@ use Rattle.dn_machine.specs.declared.events.Event.{Event}
 use Rattle.dn_machine.specs.declared.events.Refusal.{Refusal}
 use Rattle.dn_machine.specs.Game as machine
 use Rattle.dn_machine.specs.Game.{opening_game}
-use Rattle.dn_machine.specs.Headline.{Shown, whole_rows}
+use Rattle.dn_machine.specs.Headline.{Headline, Shown, shown_by, whole_rows}
 use Rattle.dn_machine.specs.Node.{Node, got, own_mark, ends_of, is_ended, ran}
 use Rattle.dn_machine.specs.Worlds.{Rules}
 use Rattle.dn_lockstep.specs.Represents.{marked_to}
-use Rattle.dn_lockstep.specs.Tables.{ring_at, ring_of, slot}
+use Rattle.dn_lockstep.specs.Agreed.{recorded_in}
+use Rattle.dn_lockstep.specs.Tables.{peer_of, ring_at, ring_of, slot}
 use Rattle.dn_node.specs.Contents.{HasOwnMarks}
-use Rattle.dn_node.specs.Kept.{Kept, peer_of}
+use Rattle.dn_node.specs.Kept.{Kept}
 use Rattle.dn_game.specs.Contents.{Contents, flight_of}
 use Rattle.dn_game.specs.Frame.{KeepsGiven}
-use Rattle.dn_game.specs.Headline.{Shows, recorded_in}
+use Rattle.dn_game.specs.Headline.{Shows}
 use Rattle.dn_game.specs.Played.{Plays}
 
 -- what a node shows of itself that shows this one of the machine
@@ -50,7 +51,7 @@ pub record ShowsNode {W S : Type 0} (state : W → S) (rules : Rules S) (setting
       → tic < marked_to (ran m) (ends_of m p) + 12 → slot n.marks p (tic % 12) ≡ own_mark m p tic
   -- and the machine's node keeps the marks of its own world
   pub own : HasOwnMarks rules m
-  -- its demo may have so many bytes, and the marker is written once it is closed
+  -- its demo may have so many bytes, and is closed once the node has ended or ran a row that lacks a player
   pub limited : n.demo.limit ≡ limit
   pub closed : m.played ≡ true
       → is_closed n.demo.stage ≡ (is_ended m.phase || nat_lt (length (whole_rows rules.players m.rows)) (ran m))
@@ -66,12 +67,13 @@ pub record ShowsRun {W S : Type 0} (state : W → S) (rules : Rules S) (settings
   pub players : length g.nodes ≡ rules.players
   pub nodes : (i : ℕ) (n : Kept W) → slice_get g.nodes i ≡ Some n
       → ShowsNode state rules settings limit i n (last.nodes i)
+  -- the headline holds of the very rows that these ran
+  pub headline : Headline rules.players (λ i. shown_by rules.players (last.nodes i))
   -- the same have stopped
   pub stopped : (i : ℕ) → slice_index_or g.stopped i false ≡ last.stopped i
   -- the packets are those of the machine's flights, in the same order
   pub flights : g.flights ≡ map flight_of last.flights
-  -- a node has the world that was given for it, unless one of these answers, to an event that names it, tells that it
-  -- started or ran a tic
+  -- a node that by the answers to its events neither started nor ran a tic has the world that was given for it
   pub given : KeepsGiven worlds events answers g
   pub done : applied ≡ count_by is_ok answers
   pub refused : refusals ≡ count_by is_err answers

@@ -75,18 +75,10 @@ no_later flight = by_kind flight (λ settings is. omega (arith, settings_end fli
 
 -- nor more than twelve past its start
 pub short_of : (flight : Flight) → IsFair flight → told_end (opened_of flight) ≤ flight.start + 12
-short_of flight fair = by_kind flight (λ settings is. omega (arith, settings_end flight settings is))
-    (λ is same. let few = words is in omega (arith, same, few))
-  where
-    words : (flight.kind ≡ Play) ⊎ (flight.kind ≡ Exit) → length flight.commands ≤ 12
-    words is = elim is [
-      | inl play ↦
-          let count = ap (λ (k : Kind). length (packet_of_kind flight k).cmds.items) play in
-          omega (arith, fair.packet.count, count)
-      | inr exit ↦
-          let count = ap (λ (k : Kind). length (packet_of_kind flight k).cmds.items) exit in
-          omega (arith, fair.packet.count, count)
-    ]
+short_of flight fair =
+    let size = length-commands (packet_of flight).cmds.items in
+    let few = fair.packet.count in
+    omega (arith, size, few)
 
 -- by its flag it is an EXIT packet
 exit_kind : (flight : Flight) → IsFair flight → flight.request ≡ None → flag_in (bytes_of flight) flag.exit ≡ true
@@ -478,16 +470,10 @@ module _ (marking : Marking) (limits : Limits) (settings : Settings) (session : 
           (low (given_from now game packet quiet.0)) hears spares
 
       least_of : (p : ℕ) → p < limits.players → got now p ≤ got next p
-      least_of p l = elim (cases_eq p packet.from) [
-        | inl at ↦ omega (arith, step.least, ap (got now) at, ap (got next) at)
-        | inr off ↦ let same = step.others p l off in omega (arith, same)
-      ]
+      least_of p l = grind (arith, cases_eq, step)
 
       idle_of : now.phase ≢ Playing → (p : ℕ) → p < limits.players → got next p ≡ got now p
-      idle_of e p l = elim (cases_eq p packet.from) [
-        | inl at ↦ ap (got next) at ∙ step.idle e ∙ ap (got now) (sym at)
-        | inr off ↦ step.others p l off
-      ]
+      idle_of e p l = grind (arith, cases_eq, step)
 
       behind_on : IsBehind (then_end tics packet) packets next
       behind_on goes_on =

@@ -1,5 +1,5 @@
 -- A datagram brings all that its sender made by then.
-use Rattle.std.proofs.Common.{◌≡◌, ◌≢◌, ◌<◌, ◌≤◌, ◌+◌, ◌-◌, ℕ, Bool, true, false, List, [], ◌∷◌, ◌++◌, length, map, take, refl, ap, sym, ◌∙◌, subst, arith, All, Option, Some, None, inl, inr}
+use Rattle.std.proofs.Common.{◌≡◌, ◌≢◌, ◌<◌, ◌≤◌, ◌+◌, ℕ, Bool, true, false, List, [], ◌∷◌, map, refl, ap, sym, ◌∙◌, subst, arith, All, Option, Some, None, inl, inr}
 use Rattle.std.proofs.lemmas.{Bool.{lt-ltb, ne_eqb, true≢false}, Option.same_Some}
 use Rattle.std.specs.Prelude.{if◌then◌else◌}
 use Rattle.dn_seal.specs.declared.{opened.Opened.Opened, seal.Seal.Seal}
@@ -25,7 +25,7 @@ last_up tic later (packet ∷ packets) less = omega arith
 -- what is so of a datagram stays so
 pub in_step_on : (limits : Limits) (links later : ℕ → Linked) (bundle : Bundle) → HasGrown limits links later
     → IsInStep limits links bundle → IsInStep limits later bundle
-in_step_on limits links later bundle grown is = grind (arith, follows, later_goes, not_yet)
+in_step_on limits links later bundle grown is = grind (arith, later_goes, not_yet)
 
 pub brings_on : (limits : Limits) (links later : ℕ → Linked) (bundle : Bundle) (count : ℕ)
     → HasGrown limits links later → bundle.from < limits.players → bundle.to < limits.players
@@ -171,8 +171,4 @@ module _ (marking : Marking) (limits : Limits) (settings : Settings) (session : 
         (sym (gives_own seal pace to old new bytes gives ∙ packed.front)) past
 
   pub brings : is_brief pace to ≡ false → Brings (made old.node) (put links player new) gives.bundle
-  brings full e =
-      let goes_on : has_ended (links to).node ≡ false = ap (λ (l : Linked). has_ended l.node) (sym theirs) ∙ e in
-      let same : got (links to).node player ≡ got (put links player new gives.bundle.to).node gives.bundle.from =
-      (λ i. got (sym theirs i).node (sym (gives.from ∙ own) i)) in
-      subst (λ (n : ℕ). made old.node ≤ last_end n (own_in gives.bundle)) same (there goes_on full)
+  brings full e = grind (arith, theirs, own, there)

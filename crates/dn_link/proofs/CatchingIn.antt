@@ -1,7 +1,7 @@
 -- The links of a game stay caught up where one takes in a datagram.
 use Rattle.std.proofs.Common.{◌≡◌, ◌≢◌, ◌<◌, ◌≤◌, ◌+◌, ◌-◌, ℕ, zero, suc, Bool, true, false, List, length, refl, ap, sym, ◌∙◌, subst, arith, Option, Some, None, All, inl, inr}
 use Rattle.std.proofs.lemmas.Bool.{and_from, and_parts, and_right, cases_eq, eq-eqb, ne_eqb, leb-true, lt-ltb, ltb-true, true≢false}
-use Rattle.std.specs.Prelude.{◌==◌, if◌then◌else◌, is_some, nat_le, nat_lt, not, slice_index, Result, Ok, Err}
+use Rattle.std.specs.Prelude.{◌==◌, is_some, nat_le, nat_lt, not, slice_index, Result, Ok, Err}
 use Rattle.dn_setup.specs.Settings.{Settings}
 use Rattle.dn_machine.specs.{Limits.Limits, Node.{is_ended, put}, Sending.lag}
 use Rattle.dn_machine.proofs.Put.{put_at, put_off}
@@ -11,7 +11,7 @@ use Rattle.dn_survivor.proofs.Pairs.{fitted}
 use Rattle.dn_seal.specs.{declared.seal.Seal.Seal, Opening.Sealing}
 use Rattle.dn_open.specs.Sealed.{sealing_of}
 use Rattle.dn_link.specs.{Linked.{HearsPeer, Linked, PeerState, Receives, ReceivesAs, TakesIn, after_report, certain, done_with, has_given_up, is_peer, met, surviving_of, takes}, Ends.{excludes, left_by}}
-use Rattle.dn_link.specs.{RemainingLinks.{AreRemainingLinks, HasReached, IsGenuineIn, WasGiven, WasSealedIn, IsLater}, Counting.{has_ended, has_of, held_of, reached, with_end}, Hearing.{ByTest, HearsAll}}
+use Rattle.dn_link.specs.{RemainingLinks.{AreRemainingLinks, HasReached, IsGenuineIn, WasGiven, WasSealedIn, IsLater}, Counting.{has_ended, has_of, held, held_of, reached, with_end}, Hearing.{ByTest, HearsAll}}
 use Rattle.dn_link.specs.{CaughtUp.{next_to, AreCaughtUp, Brings, HasExit, HasNoGap, IsCaughtUp, IsClose, IsInStep, IsInStepTo, IsKeptChain, StayCaughtUp, last_end}, Kept.{IsKeptRising, Unacknowledged, acknowledged}}
 use Rattle.dn_link.specs.{declared.{bundle.{Bundle.Bundle, BundleFault.BundleFault}, received.Received.{Received, TheVariants.{Excluded, GivenUp, Heard, Stranger}}}, Text.{IsBundle, sealed_bytes}}
 use Rattle.dn_link.specs.{Packets.{heard_in, own_in, packets_in}, Reading.{IsBundledAs, IsDatagramOf}}
@@ -29,27 +29,14 @@ at_most (Some cause) node count bound stays less = absurd (stays cause refl)
 at_most None node count bound stays less = less
 
 -- by what is there of four players there are no more of any
+held_low : (node : Contents) (player : ℕ) → held node player ≤ got node player
+held_low node player = grind arith
+
 held_most : (node : Contents) (player : ℕ) → slice_index (held_of node) player ≤ got node player
-held_most node zero = by (nat_lt 0 node.players)
-  where
-    by : (test : Bool) → (if test then got node 0 else 0) ≤ got node 0
-    by true = omega arith
-    by false = omega arith
-held_most node (suc zero) = by (nat_lt 1 node.players)
-  where
-    by : (test : Bool) → (if test then got node 1 else 0) ≤ got node 1
-    by true = omega arith
-    by false = omega arith
-held_most node (suc (suc zero)) = by (nat_lt 2 node.players)
-  where
-    by : (test : Bool) → (if test then got node 2 else 0) ≤ got node 2
-    by true = omega arith
-    by false = omega arith
-held_most node (suc (suc (suc zero))) = by (nat_lt 3 node.players)
-  where
-    by : (test : Bool) → (if test then got node 3 else 0) ≤ got node 3
-    by true = omega arith
-    by false = omega arith
+held_most node zero = held_low node 0
+held_most node (suc zero) = held_low node 1
+held_most node (suc (suc zero)) = held_low node 2
+held_most node (suc (suc (suc zero))) = held_low node 3
 held_most node (suc (suc (suc (suc player)))) = omega arith
 
 module _ (marking : Marking) (limits : Limits) (settings : Settings) (session : Session) (links : ℕ → Linked)
@@ -81,9 +68,11 @@ module _ (marking : Marking) (limits : Limits) (settings : Settings) (session : 
   nothing same = still limits links player new mine were (record {
     others = λ p l n. ap (λ (l : Linked). got l.node p) same;
     own = omega (arith, ap (λ (l : Linked). got l.node player) same);
+    no_more = λ left. ap (λ (l : Linked). got l.node player) same;
     sends = λ p l. ap (λ (l : Linked). next_to l.node p) same;
     wants = λ p l. ap (λ (l : Linked). (l.node.peers p).want) same;
     ran = omega (arith, ap (λ (l : Linked). l.node.ran) same);
+    plays_on = λ e. ap (λ (l : Linked). is_ended l.node.phase) (sym same) ∙ e;
   }) (ap (λ (l : Linked). l.others.gone) same) (λ peer. ap (λ (l : Linked). (l.peers peer).kept) same)
       (λ was. ap (λ (l : Linked). has_ended l.node) same ∙ was)
 
@@ -130,6 +119,7 @@ module _ (marking : Marking) (limits : Limits) (settings : Settings) (session : 
       sends : (p : ℕ) → p < limits.players → next_to new.node p ≡ next_to old.node p
       wants : (p : ℕ) → p < limits.players → p ≢ player → (new.node.peers p).want ≡ false
       ran : new.node.ran ≡ old.node.ran
+      plays_on : is_ended new.node.phase ≡ false → is_ended old.node.phase ≡ false
 
     none : (p : ℕ) → p < limits.players → p ≢ player → (old.node.peers p).want ≡ false
     none p l n = (were.pairs player p mine l n).asks
@@ -191,6 +181,7 @@ module _ (marking : Marking) (limits : Limits) (settings : Settings) (session : 
             sends = λ p l. them.sends p l ∙ ap (λ (n : Contents). next_to n p) (sym node);
             wants = them.wants;
             ran = them.ran ∙ ap (λ (n : Contents). n.ran) (sym node);
+            plays_on = λ e. ap (λ (n : Contents). is_ended n.phase) node ∙ them.ended e;
           },
           (λ plays.
               let goes_on = them.ended (ap is_ended plays) in
@@ -339,7 +330,7 @@ module _ (marking : Marking) (limits : Limits) (settings : Settings) (session : 
 
       pub taken_in : StayCaughtUp limits links player new
       taken_in = relinked limits links player new mine were (still_whole old new takes_it.gone (were.whole player mine)) pair came.least (omega (arith, came.ran))
-          (λ which l off goes_on. let same = came.sends which l in omega (arith, same)) stays
+          (λ which l off goes_on. let same = came.sends which l in omega (arith, same)) stays (λ left. came.own) came.plays_on
 
       -- a player that plays has all of them then
       pub brings : new.node.phase ≡ phase.Playing → last_end first (own_in bundle) ≤ got new.node from

@@ -7,7 +7,7 @@ use Rattle.dn_link.specs.Pacing.{is_brief}
 use Rattle.dn_link.specs.Packets.{packets_of}
 use Rattle.std.specs.List.{flat_map}
 use Rattle.dn_setup.specs.Settings.{Settings}
-use Rattle.dn_machine.specs.{declared.peer.Peer.Peer, Flight.Flight, Limits.Limits, Node.put, Sending.{lag, after_sent, set_up_flight}}
+use Rattle.dn_machine.specs.{declared.peer.Peer.Peer, Flight.Flight, Limits.Limits, Node.{is_ended, put}, Sending.{lag, after_sent, set_up_flight}}
 use Rattle.dn_machine.proofs.{Calls.send_cases, Put.{put_at, put_off}}
 use Rattle.dn_lockstep.specs.{Marking.Marking, Represents.Represents, Sent.sent_to, Told.{got, made}}
 use Rattle.dn_survivor.specs.{OneGame.Session, Surviving.Surviving, declared.others.Others.Others}
@@ -27,6 +27,7 @@ module _ (limits : Limits) (me : ℕ) (m : machine.Node) (to : ℕ) where
   pub record IsSent (r : machine.Node × Option Flight) : Type 0 where
     pub held : r.0.held ≡ m.held
     pub rows : r.0.rows ≡ m.rows
+    pub phase : r.0.phase ≡ m.phase
     pub wants : (p : ℕ) → (r.0.peers p).want ≡ (m.peers p).want
     pub others : (p : ℕ) → p ≢ to → (r.0.peers p).resend ≡ (m.peers p).resend
     pub asks : (m.peers to).want ≡ false → (flight : Flight) → r.1 ≡ Some flight → flight.request ≡ None
@@ -35,6 +36,7 @@ module _ (limits : Limits) (me : ℕ) (m : machine.Node) (to : ℕ) where
   same flight quiet = record {
     held = refl;
     rows = refl;
+    phase = refl;
     wants = λ p. refl;
     others = λ p n. refl;
     asks = λ none one e. quiet one e;
@@ -45,6 +47,7 @@ module _ (limits : Limits) (me : ℕ) (m : machine.Node) (to : ℕ) where
   sent flight quiet = record {
     held = refl;
     rows = refl;
+    phase = refl;
     wants = λ p. elim (cases_eq p to) [
       | inl e ↦ ap (λ (x : Peer). x.want) (put_at m.peers to p _ e) ∙ ap (λ (k : ℕ). (m.peers k).want) (sym e)
       | inr n ↦ ap (λ (x : Peer). x.want) (put_off m.peers to p _ n)
@@ -153,6 +156,7 @@ module _ (marking : Marking) (limits : Limits) (settings : Settings) (session : 
     others : (p : ℕ) → p < limits.players → p ≢ to → next_to new.node p ≡ next_to old.node p
     asks : (one : Carried) → Some one ≡ gives.given → one.ask ≡ None
     ran : new.node.ran ≡ old.node.ran
+    phase : new.node.phase ≡ old.node.phase
 
   gave_sent : (r : machine.Node × Option Flight) → IsSent limits player m to r → Represents limits player new.node r.0
       → gives.given ≡ option_map carried_of r.1 → Gave
@@ -166,6 +170,7 @@ module _ (marking : Marking) (limits : Limits) (settings : Settings) (session : 
     asks = λ one e. quiet r.1 (sent.asks (ap (λ (x : Peer). x.want) (sym (shows.peers.known to below)) ∙ was.asks)) one
         (e ∙ answer);
     ran = after.table.ran ∙ ap (length {A = List (Option Move)}) sent.rows ∙ sym shows.table.ran;
+    phase = after.stands.phase ∙ sent.phase ∙ sym shows.stands.phase;
   }
     where
       quiet : (flight : Option Flight) → ((f : Flight) → flight ≡ Some f → f.request ≡ None) → (one : Carried)
@@ -356,7 +361,7 @@ module _ (marking : Marking) (limits : Limits) (settings : Settings) (session : 
     | inl at ↦ subst (λ (k : ℕ). next_to old.node k ≤ next_to new.node k) (sym at)
         (sends_then (ap (λ (k : ℕ). has_ended (links k).node) (sym at) ∙ goes_on)).up
     | inr off ↦ let same = gave_it.others which l off in omega (arith, same)
-  ]) stays
+  ]) stays (λ left. gave_it.gots player mine) (λ e. ap is_ended (sym gave_it.phase) ∙ e)
 
   -- what the peer is given is in step
   abbrev packets : List Carried

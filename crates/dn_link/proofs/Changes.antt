@@ -29,20 +29,6 @@ bits_few before command bits done eight few is =
     let most = pow_mono {i = length (drop (8 - done) before)} {j = 7} (omega (arith, left, eight, few)) in
     omega (arith, low, most, is)
 
--- the byte at a place, and those behind it
-pub bits_at : (before command : List ℕ) (place : ℕ) → place < length before → place < length command
-    → change_bits (drop place before) (drop place command)
-    ≡ (if get_or command place 0 == get_or before place 0 then 0 else 1)
-    + 2 * change_bits (drop (place + 1) before) (drop (place + 1) command)
-bits_at before command place low few = rw (drop_more before place 0 low, drop_more command place 0 few) refl
-
-pub changed_at : (before command : List ℕ) (place : ℕ) → place < length before → place < length command
-    → changed (drop place before) (drop place command)
-    ≡ (if get_or command place 0 == get_or before place 0
-    then changed (drop (place + 1) before) (drop (place + 1) command)
-    else get_or command place 0 ∷ changed (drop (place + 1) before) (drop (place + 1) command))
-changed_at before command place low few = rw (drop_more before place 0 low, drop_more command place 0 few) refl
-
 -- a command is read back
 even : (bits : ℕ) → (0 + 2 * bits) % 2 ≡ 0
 even bits = omega arith
@@ -184,17 +170,3 @@ commands_written bytes before rest command after whole eight split so =
     append_assoc bytes (difference before command) (differences (length after / 8) command after)
     ∙ (λ i. bytes ++ (difference before (sym first i) ++ differences (length after / 8) (sym first i) (sym others i)))
     ∙ ap (λ (n : ℕ). bytes ++ differences n before rest) (sym count) ∙ so
-
--- a difference has up to nine bytes
-pub length-difference : (before command : List ℕ) → length before ≡ 8 → length (difference before command) ≤ 9
-length-difference before command eight = let few = go before command in omega (arith, few, eight)
-  where
-    go : (before command : List ℕ) → length (changed before command) ≤ length before
-    go [] command = omega arith
-    go (b ∷ before) [] = omega arith
-    go (b ∷ before) (c ∷ command) =
-        let few = go before command in
-        elim (cases_eq c b) [
-          | inl same ↦ let on = eq-eqb c b same in rw on (omega (arith, few))
-          | inr other ↦ let off = ne_eqb c b other in rw off (omega (arith, few))
-        ]

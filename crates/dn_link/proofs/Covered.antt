@@ -8,7 +8,6 @@ use Rattle.dn_seal.specs.declared.{opened.Opened.Opened, seal.Seal.Seal}
 use Rattle.dn_machine.proofs.Put.{put_at}
 use Rattle.dn_link.specs.{Kept.{IsCovering, Reaches, Unacknowledged, acknowledged, end_of, going, has_tic, is_news, kept_after, taken_by, without, IsKeptRising, IsRising}, Linking.peers_of}
 use Rattle.dn_link.specs.{declared.{bundle.Carried.Carried, peer.Peer.Peer}, Linked.{Gives, Linked, PeerState}, Pacing.PaceState, Packets.{opened_from, packets_of}, Packing.ArePacked}
-use Rattle.dn_link.specs.Text.{parts_bytes}
 use Rattle.dn_link.specs.Packing.{parts_room}
 use Rattle.dn_link.specs.Pacing.{is_brief}
 

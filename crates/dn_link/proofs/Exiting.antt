@@ -1,7 +1,7 @@
 -- A datagram of one who has left tells so.
 use Rattle.std.proofs.Common.{◌≡◌, ◌≢◌, ◌<◌, ◌≤◌, ◌+◌, ◌-◌, ◌/◌, ℕ, Bool, true, false, List, [], ◌∷◌, ◌++◌, length, map, take, append-nil, refl, ap, sym, ◌∙◌, subst, arith, All, Option, Some, None, inl, inr}
 use Rattle.std.proofs.{lemmas.{Bool.{and_parts, le-ltb, lt-ltb, ne_eqb, true≢false}, List.{length-append, length-map, map-append}}, Math.Seq.take-append_seam}
-use Rattle.std.specs.{Prelude.{bit_and, is_none, nat_lt, not, slice_index, ◌&&◌, ◌==◌}, Option.option_map}
+use Rattle.std.specs.{Prelude.{bit_and, is_none, not, slice_index, ◌&&◌, ◌==◌}, Option.option_map}
 use Rattle.dn_packet.specs.Flags as flag
 use Rattle.dn_seal.specs.declared.{opened.Opened.Opened, seal.Seal.Seal}
 use Rattle.dn_setup.specs.Settings.{Settings}
@@ -10,13 +10,12 @@ use Rattle.dn_machine.specs.{Node.is_ended, Sending.{after_sent, commands_flight
 use Rattle.dn_machine.proofs.Stages.{lag_low}
 use Rattle.dn_lockstep.specs.{Marking.Marking, Represents.Represents, Sent.{bytes_of, sent_to}, Told.{got, made}}
 use Rattle.dn_lockstep.proofs.Shown.{made_is}
-use Rattle.dn_open.specs.Arrivals.{flag_in}
 use Rattle.dn_open.proofs.Letters.{flags_at}
 use Rattle.dn_survivor.specs.{OneGame.Session, Surviving.Surviving}
-use Rattle.dn_link.specs.{CaughtUp.{AreCaughtUp, HasExit, IsCaughtUp, next_to}, Counting.has_ended, Hearing.carried_of, Kept.{Unacknowledged, commands_in, end_of, going, is_idle, taken_by, takes_packet}}
+use Rattle.dn_link.specs.{CaughtUp.{AreCaughtUp, HasExit, IsCaughtUp, next_to}, Counting.has_ended, Hearing.carried_of, Kept.{Unacknowledged, commands_in, end_of, going, is_idle, taken_by}}
 use Rattle.dn_link.specs.{Linked.{Gives, Linked}, Packets.{opened_from, own_in}, Packing.ArePacked, Pacing.{PaceState, is_brief}, Relays.handed_part, RemainingLinks.AreRemainingLinks}
 use Rattle.dn_link.specs.{Text.IsPart, declared.bundle.Carried.Carried}
-use Rattle.dn_link.proofs.{CatchingOut.two_windows, Fitting.{all_go, all_sized, fits, gives_own, weight, weight_on}, Growing.ended_is, Leaving.All-front, Makers.exit_back, Relinking.AreGiven, Sending.{Follows, first_is, follows}}
+use Rattle.dn_link.proofs.{CatchingOut.{sends_then, two_windows}, Fitting.{all_go, all_sized, fits, gives_own, weight, weight_on}, Growing.ended_is, Leaving.All-front, Makers.exit_back, Relinking.AreGiven, Sending.{Follows, first_is, follows}}
 use Rattle.dn_machine.specs.Node as machine
 use Rattle.dn_link.proofs.RemainingCalls as base
 
@@ -49,7 +48,7 @@ module _ (marking : Marking) (limits : Limits) (settings : Settings) (session : 
     (linked : AreRemainingLinks marking limits settings session links) (player : ℕ) (mine : player < limits.players)
     (were : AreCaughtUp limits links) (to : ℕ) (below : to < limits.players) (apart : to ≢ player) (seal : Seal)
     (pace : PaceState) (new : Linked) (bytes : List ℕ) (gives : Gives seal pace to (links player) new bytes)
-    (twelve : 12 ≤ limits.places) (narrow : limits.ahead ≤ 11)
+    (twelve : 12 ≤ limits.places)
     (near : made (links player).node ≤ next_to (links player).node to + 12)
     (left : has_ended (links player).node ≡ true) (goes_on : has_ended (links to).node ≡ false) where
   abbrev old : Linked
@@ -117,6 +116,14 @@ module _ (marking : Marking) (limits : Limits) (settings : Settings) (session : 
       let answer = (gives.step.step limits player m shows).answer in
       answer ∙ ap (λ (r : machine.Node × Option Flight). option_map carried_of r.1) sent
 
+  -- and the next one goes on behind it, or repeats its last command
+  pub sent : made old.node ≤ next_to new.node to + lag limits
+  sent = elim ((sends_then marking limits settings session links linked player mine were to below apart seal pace new
+      bytes gives (λ plays. omega (arith, in_time, next, count, shows.whose.places)) goes_on).moment packet (sym given)) [
+        | inl none ↦ omega (arith, ends, none)
+        | inr goes ↦ let low = goes.1 in omega (arith, ends, low)
+      ]
+
   taken : taken_by (old.peers to).left gives.given ≡ Some packet
   taken = ap (taken_by (old.peers to).left) given ∙ go (old.peers to).left refl
     where
@@ -130,8 +137,8 @@ module _ (marking : Marking) (limits : Limits) (settings : Settings) (session : 
           let busy : is_idle packet ≡ false = not_all (commands_in packet == 0) (is_none packet.ask) _ set in
           rw busy refl
 
-  pub exits : is_brief pace to ≡ false → HasExit player (made old.node) (own_in gives.bundle)
-  exits full =
+  pub exits : limits.ahead ≤ 11 → is_brief pace to ≡ false → HasExit player (made old.node) (own_in gives.bundle)
+  exits narrow full =
       let f : Carried → Opened = opened_from old.node.me in
       let all : List Carried = kept.packets ++ packet ∷ [] in
       let packed = subst (λ (ps : List Carried). ArePacked old.node.me ps gives.own)

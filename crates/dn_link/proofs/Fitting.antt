@@ -1,7 +1,7 @@
 -- A datagram has room for all packets that its receiver needs.
-use Rattle.std.proofs.Common.{◌≡◌, ◌<◌, ◌≤◌, ◌+◌, ◌-◌, ◌*◌, ◌/◌, ◌%◌, ◌^◌, ℕ, zero, suc, Bool, true, false, List, [], ◌∷◌, ◌++◌, length, map, take, drop, append-nil, refl, ap, sym, ◌∙◌, subst, arith, All, inl, inr, Option, Some, None}
+use Rattle.std.proofs.Common.{◌≡◌, ◌≤◌, ◌+◌, ◌-◌, ◌*◌, ◌/◌, ◌%◌, ◌^◌, ℕ, zero, suc, Bool, true, false, List, [], ◌∷◌, ◌++◌, length, map, take, drop, append-nil, refl, ap, sym, ◌∙◌, subst, arith, All, inl, inr, Option, Some, None}
 use Rattle.std.proofs.lemmas.{List.{Elements.{All-append, All-cons, All-head, All-nil, All-tail}, length-append, length-map, length-take, map-append}, Bool.cases_lt, Grind.flat_map-append}
-use Rattle.std.specs.{Prelude.{if◌then◌else◌, min, slice_get}, List.flat_map}
+use Rattle.std.specs.{Prelude.{if◌then◌else◌, slice_get}, List.flat_map}
 use Rattle.dn_machine.specs.Flight.{Flight}
 use Rattle.dn_lockstep.specs.Sent.{IsFair}
 use Rattle.dn_open.specs.Sealed.{opened_of}
@@ -113,10 +113,7 @@ all_sized given fair from to (packet ∷ packets) all =
     (All-tail (λ packet. WasGiven given to (opened_from from packet)) packet packets all))
   where
     one : (flight : Flight) → IsFair flight → opened_from from packet ≡ opened_of flight → IsSized packet
-    one flight fair is =
-        let short = short_of flight fair in
-        subst (λ (o : Opened). IsSized (record { start = o.start; ask = o.ask; datagram = o.datagram })) (sym is)
-        (whole_of flight, omega (arith, short))
+    one flight fair is = grind (arith, short_of, whole_of)
 
 -- so there is room for what is kept of so many commands
 pub fits : (from lag made done wide : ℕ) (packets : List Carried) (covered next : ℕ) → lag ≤ 1

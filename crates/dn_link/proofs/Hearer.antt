@@ -1,5 +1,5 @@
 -- What one packet that asks for nothing does to the node that hears it.
-use Rattle.std.proofs.Common.{◌≡◌, ◌≢◌, ◌<◌, ◌≤◌, ◌+◌, ◌-◌, ◌⊎◌, ◌++◌, ℕ, Bool, true, false, List, length, drop, refl, ap, sym, ◌∙◌, subst, arith, Option, None, Some, inl, inr}
+use Rattle.std.proofs.Common.{◌≡◌, ◌≢◌, ◌<◌, ◌≤◌, ◌+◌, ◌-◌, ◌⊎◌, ◌++◌, ℕ, Bool, true, false, List, length, drop, refl, ap, sym, ◌∙◌, subst, arith, None, Some, inl, inr}
 use Rattle.std.proofs.lemmas.{Bool.cases_eq, List.{length-append, length-drop}}
 use Rattle.std.specs.Prelude.{max}
 use Rattle.dn_tic.specs.declared.command.TicCmd.{TicCmd}
@@ -21,9 +21,7 @@ module _ (limits : Limits) (me : ℕ) (node : Node) (flight : Flight) (silent : 
 
   requested : ((after_request limits.places (made me node) (node.peers from) flight.request).resend ≡ (node.peers from).resend)
       × ((after_request limits.places (made me node) (node.peers from) flight.request).want ≡ (node.peers from).want)
-  requested = subst (λ (r : Option ℕ). ((after_request limits.places (made me node) (node.peers from) r).resend ≡ (node.peers from).resend)
-      × ((after_request limits.places (made me node) (node.peers from) r).want ≡ (node.peers from).want))
-      (sym silent) (request_same (node.peers from))
+  requested = grind (arith, request_same)
 
   exit_same : (peer : Peer) (exit : Bool) (end : ℕ) → ((after_exit peer exit end).resend ≡ peer.resend)
       × ((after_exit peer exit end).want ≡ peer.want)
@@ -32,10 +30,7 @@ module _ (limits : Limits) (me : ℕ) (node : Node) (flight : Flight) (silent : 
 
   sender_same : ((sender_after limits me node flight).resend ≡ (node.peers from).resend)
       × ((sender_after limits me node flight).want ≡ (node.peers from).want)
-  sender_same =
-      let ends = exit_same (after_request limits.places (made me node) (node.peers from) flight.request)
-      (is_exit flight.kind) (end_of flight) in
-      (ends.0 ∙ requested.0, ends.1 ∙ requested.1)
+  sender_same = grind (arith, exit_same, requested)
 
   -- nothing is wanted of any player
   abbrev pub WantsNone : Node → Type 0
@@ -54,18 +49,11 @@ module _ (limits : Limits) (me : ℕ) (node : Node) (flight : Flight) (silent : 
 
   next_put : (peer : Peer) → peer.resend ≡ (node.peers from).resend → (p : ℕ)
       → (put node.peers from peer p).resend ≡ (node.peers p).resend
-  next_put peer same p = elim (cases_eq p from) [
-    | inl e ↦ ap (λ (x : Peer). x.resend) (put_at node.peers from p peer e) ∙ same
-        ∙ ap (λ (k : ℕ). (node.peers k).resend) (sym e)
-    | inr n ↦ ap (λ (x : Peer). x.resend) (put_off node.peers from p peer n)
-  ]
+  next_put peer same p = grind (arith, cases_eq, put_at, put_off)
 
   wants_put : (peer : Peer) → peer.want ≡ false → WantsNone node → (p : ℕ) → p < limits.players
       → p ≢ me → (put node.peers from peer p).want ≡ false
-  wants_put peer none all p l other = elim (cases_eq p from) [
-    | inl e ↦ ap (λ (x : Peer). x.want) (put_at node.peers from p peer e) ∙ none
-    | inr n ↦ ap (λ (x : Peer). x.want) (put_off node.peers from p peer n) ∙ all p l other
-  ]
+  wants_put peer none all p l other = grind (arith, cases_eq, put_at, put_off)
 
   -- it has the same commands
   module _ (end : ℕ) (new : Node) (held : new.held ≡ node.held) where
@@ -96,10 +84,7 @@ module _ (limits : Limits) (me : ℕ) (node : Node) (flight : Flight) (silent : 
   -- with the commands that are new
   grown : length (put node.held from (node.held from ++ drop (length (node.held from) - flight.start) flight.commands) from)
       ≡ length (node.held from) + (length flight.commands - (length (node.held from) - flight.start))
-  grown = ap (length {A = TicCmd}) (put_at node.held from from _ refl)
-      ∙ length-append (node.held from) (drop (length (node.held from) - flight.start) flight.commands)
-      ∙ ap (λ (n : ℕ). length (node.held from) + n)
-      (length-drop (length (node.held from) - flight.start) flight.commands)
+  grown = grind (arith, put_at, length-append, length-drop)
 
   -- a word of its sender
   pub word_leaves : Leaves (end_of flight) (on_packet limits me node flight).0
@@ -184,10 +169,7 @@ module _ (limits : Limits) (me : ℕ) (node : Node) (flight : Flight) (silent : 
     where
       not_so : (number : ℕ) → Refused limits me node flight number
           → (number ≡ drops.out_of_place) ⊎ (number ≡ drops.not_playing) → ⊥
-      not_so number why fine = elim why [
-        | inl over ↦ elim fine [ inl a ↦ absurd (omega (arith, over.0, a)) | inr b ↦ absurd (omega (arith, over.0, b)) ]
-        | inr strange ↦ elim fine [ inl a ↦ absurd (omega (arith, strange.0, a)) | inr b ↦ absurd (omega (arith, strange.0, b)) ]
-      ]
+      not_so number why fine = grind arith
 
   pub word_reaches : node.phase ≡ Playing → (flight.kind ≡ Play) ⊎ (flight.kind ≡ Exit)
       → flight.start ≤ length (node.held from) → IsSpared (on_packet limits me node flight).1

@@ -1,11 +1,11 @@
 -- Parts are read back, and what is read is what stands there.
-use Rattle.std.proofs.Common.{◌≡◌, ◌<◌, ◌≤◌, ◌+◌, ◌^◌, ℕ, List, ◌∷◌, ◌++◌, length, take, drop, refl, ap, sym, ◌∙◌, subst, arith, Option, Some, None, ◌≢◌, ◌*◌, ◌/◌, ◌%◌, ◌-◌, zero, suc, [], append_assoc, All, inl, inr}
-use Rattle.std.proofs.lemmas.{Bool.{lt-ltb, le-ltb, cases_eq, cases_lt, eq-eqb, ne_eqb}, List.{take-append-drop, length-take-le, length-append, length-drop, drop-drop, Elements.{All-nil, All-cons, All-head, All-tail}}, Nat.from_le_bytes-to_le_bytes_4, Option.{same_Some, none-some}}
+use Rattle.std.proofs.Common.{◌≡◌, ◌<◌, ◌≤◌, ◌+◌, ◌^◌, ℕ, List, ◌∷◌, ◌++◌, length, take, drop, refl, ap, sym, ◌∙◌, subst, arith, Option, Some, None, ◌/◌, ◌%◌, zero, suc, [], append_assoc, All, inl, inr}
+use Rattle.std.proofs.lemmas.{Bool.{lt-ltb, le-ltb, cases_eq, cases_lt, eq-eqb, ne_eqb}, List.{length-take-le, length-append, length-drop, Elements.{All-nil, All-cons, All-head, All-tail}}, Nat.from_le_bytes-to_le_bytes_4, Option.{same_Some, none-some}}
 use Rattle.std.proofs.Math.Seq.{take-append_seam, drop-append_seam}
-use Rattle.std.specs.{Prelude.slice_index, Int.{w32, to_le_bytes, from_le_bytes}, Option.option_map, List.flat_map}
-use Rattle.dn_seal.specs.{Opening.ask_in, Envelope.ask_bytes}
-use Rattle.dn_seal.proofs.Openings.{four_bytes, ask_is, asked-small}
-use Rattle.dn_link.specs.{Text.{carried_bytes, IsCarried, part_bytes, run_bytes, IsPart, IsRelay, IsRun}, Told.{number_at, told_whole, told_run, told_relay, told_part, told_all}}
+use Rattle.std.specs.{Prelude.slice_index, Option.option_map, List.flat_map}
+use Rattle.dn_seal.specs.{Opening.ask_in}
+use Rattle.dn_seal.proofs.Openings.{asked-small}
+use Rattle.dn_link.specs.{Text.{carried_bytes, IsCarried, part_bytes, IsPart, IsRelay, IsRun}, Told.{number_at, told_whole, told_run, told_relay, told_part, told_all}}
 use Rattle.dn_link.specs.declared.bundle.{Carried.Carried, Part.{Part, TheVariants.{Whole, Run, Relay}}}
 use Rattle.dn_link.proofs.Runs.{heads, run_first, run_is}
 use Rattle.dn_link.specs.Text.{run_head}

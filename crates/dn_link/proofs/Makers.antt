@@ -180,12 +180,7 @@ ends_of tics [] = tics
 ends_of tics (packet ∷ packets) = ends_of (then_end tics packet) packets
 
 then_up : (tics : ℕ → ℕ) (packet : Opened) (p : ℕ) → tics p ≤ then_end tics packet p
-then_up tics packet p = elim (cases_eq p packet.from) [
-  | inl at ↦
-      let now = put_at tics packet.from p (max (tics packet.from) (told_end packet)) at in
-      omega (arith, now, ap tics at)
-  | inr off ↦ let now = put_off tics packet.from p (max (tics packet.from) (told_end packet)) off in omega (arith, now)
-]
+then_up tics packet p = grind (arith, cases_eq, put_at, put_off)
 
 ends_up : (tics : ℕ → ℕ) (packets : List Opened) (p : ℕ) → tics p ≤ ends_of tics packets p
 ends_up tics [] p = omega arith

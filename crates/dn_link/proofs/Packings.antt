@@ -1,11 +1,11 @@
 -- Packets are written as parts, one after the other, and as no more than they need.
 use Rattle.std.proofs.Common.{◌≡◌, ◌<◌, ◌≤◌, ◌+◌, ◌^◌, ℕ, List, [], ◌∷◌, ◌++◌, length, refl, ap, sym, ◌∙◌, subst, arith, All, append-nil, ◌*◌, inl, inr, ◌/◌, ◌%◌, zero, suc, map, take, drop, append_assoc}
-use Rattle.std.proofs.lemmas.{List.{length-append, length-drop, map-append, take-append-le, drop-append-le, Elements.{All-nil, All-cons, All-append}}, Grind.flat_map-append, Bool.{cases_lt, lt-ltb, le-ltb}}
+use Rattle.std.proofs.lemmas.{List.{length-append, length-drop, map-append, take-append-le, drop-append-le, Elements.{All-nil, All-cons, All-append}}, Bool.{cases_lt, lt-ltb, le-ltb}}
 use Rattle.std.proofs.Math.Seq.{take-append_seam}
-use Rattle.std.specs.{Int.{w32, to_le_bytes}, List.flat_map}
+use Rattle.std.specs.{List.flat_map}
 use Rattle.arrayvec.specs.ArrayVec.{ArrayVec}
 use Rattle.dn_seal.specs.declared.opened.Opened.{Opened}
-use Rattle.dn_link.specs.{Packing.{runs, runs_last, ArePacked, AreEnded, IsEnded, IsNeeded, MayFollow, IsPacking, IsOpen, part_of, packed, IsTight}, Text.{IsPart, part_bytes, parts_bytes}}
+use Rattle.dn_link.specs.{Packing.{runs, runs_last, ArePacked, AreEnded, IsEnded, IsNeeded, MayFollow, IsPacking, IsOpen, part_of, packed, IsTight}, Text.{IsPart}}
 use Rattle.dn_link.specs.{declared.{bundle.{Part.{Part, TheVariants.{Run, Whole, Relay}}, Carried.Carried}, packing.Packing.Packing}, Packets.{opened_from, packets_of, short_packet, short_packets}}
 use Rattle.dn_link.specs.Packing.{IsOpenRun, part_room, parts_room}
 use Rattle.dn_link.specs.Text.{IsCarried}

@@ -320,26 +320,12 @@ module _ (body : List ℕ) where
   pub no_cause : 5 < slice_index body 18 → None ≡ told_bundle body
   no_cause many = let on = lt-ltb 5 (slice_index body 18) many in rw on refl
 
-  pub no_report : slice_index body 18 ≤ 5 → 397 < its_size → None ≡ told_bundle body
-  no_report few many =
-      let off = le-ltb 5 (slice_index body 18) few in
-      let on = lt-ltb 397 its_size many in
-      rw (off, on) refl
-
   pub no_parts : slice_index body 18 ≤ 5 → its_size ≤ 397 → told_parts (drop (45 + its_size) body) ≡ None
       → None ≡ told_bundle body
   no_parts few short none =
       let off = le-ltb 5 (slice_index body 18) few in
       let fit = le-ltb 397 its_size short in
       rw (off, fit, none) refl
-
-  pub too_short : slice_index body 18 ≤ 5 → its_size ≤ 397 → length body < 45 + its_size → None ≡ told_bundle body
-  too_short few short long =
-      no_parts few short (of_none (drop (45 + its_size) body) (omega (arith, length-drop (45 + its_size) body, long)))
-    where
-      of_none : (xs : List ℕ) → length xs ≡ 0 → told_parts xs ≡ None
-      of_none [] none = refl
-      of_none (x ∷ xs) none = absurd (omega (arith, none))
 
   pub all_told : (b : Bundle) → slice_index body 18 ≤ 5 → its_size ≤ 397
       → told_parts (drop (45 + its_size) body) ≡ Some b.parts.items

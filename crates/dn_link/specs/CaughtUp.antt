@@ -1,7 +1,7 @@
 -- That what a peer is to be sent goes on from what is kept for it, and that from what it has.
 use Rattle.std.specs.Prelude.{◌≡◌, ◌≢◌, ◌<◌, ◌≤◌, ℕ, ◌+◌, ◌-◌, true, false, All, List, [], ◌∷◌, Option, None, Some, ◌⊎◌, IfSome}
 use Rattle.dn_seal.specs.{declared.opened.Opened.Opened, declared.seal.Seal.Seal}
-use Rattle.dn_machine.specs.{Limits.Limits, Node.put, Sending.lag}
+use Rattle.dn_machine.specs.{Limits.Limits, Node.{is_ended, put}, Sending.lag}
 use Rattle.dn_machine.specs.Node as machine
 use Rattle.dn_lockstep.specs.{Told.got, Told.made, Contents.Contents, Represents.Represents}
 use Rattle.dn_open.specs.{Arrivals.flag_in, Sealed.sealing_of}
@@ -139,8 +139,11 @@ HasExit from end (packet ∷ packets) =
     ⊎ HasExit from end packets
 
 -- each player has as many commands of each as before, or more; it has run as many tics, or more; its next
--- packet to a peer that has not ended begins no earlier; and a player who had ended has ended
+-- packet to a peer that has not ended begins no earlier; a player who had ended has ended, and makes no more; and who
+-- has not ended, whether it had played or not, had not
 pub record HasGrown (limits : Limits) (old new : ℕ → Linked) : Type 0 where
+  pub still : (player : ℕ) → player < limits.players → has_ended (old player).node ≡ true
+      → got (new player).node player ≡ got (old player).node player
   pub got : (player which : ℕ) → player < limits.players → which < limits.players
       → got (old player).node which ≤ got (new player).node which
   pub ran : (player : ℕ) → player < limits.players → (old player).node.ran ≤ (new player).node.ran
@@ -148,6 +151,8 @@ pub record HasGrown (limits : Limits) (old new : ℕ → Linked) : Type 0 where
       → has_ended (old which).node ≡ false → next_to (old player).node which ≤ next_to (new player).node which
   pub ended : (player : ℕ) → player < limits.players → has_ended (old player).node ≡ true
       → has_ended (new player).node ≡ true
+  pub goes_on : (player : ℕ) → player < limits.players → is_ended (new player).node.phase ≡ false
+      → is_ended (old player).node.phase ≡ false
 
 -- with a new link of a player they are caught up still
 abbrev pub StayCaughtUp : Limits → (ℕ → Linked) → ℕ → Linked → Type 0

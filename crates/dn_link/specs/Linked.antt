@@ -5,7 +5,7 @@ use Rattle.dn_machine.specs.Node.{put}
 use Rattle.dn_lockstep.specs.{Contents.{Contents, end_in}, Told.made, Told.{command_told}}
 use Rattle.dn_survivor.specs.{OfOthers.has, declared.{others.Others.Others, answers.Reported.{Reported, TheVariants.Kept}, report.{Report.Report, ReportFault.ReportFault}}, Surviving.Surviving, Telling.{MayRelay, report_for}, Calls.HearsReport, ReportBytes.{IsReadAs, IsReport, report_bytes}}
 use Rattle.dn_open.specs.Sealed.{sealing_of}
-use Rattle.dn_link.specs.{declared.{received.Received.{TheVariants.{Unopened, Stranger, GivenUp, Excluded, Heard}, Received}, bundle.{Bundle.Bundle, BundleFault.BundleFault, Carried.Carried, Part.Part}, line.Line.Line, tally.Figures.Figures}, Kept.{Unacknowledged, acknowledged, going, kept_after, taken_by}, Reading.IsBundledAs, Counting.{counts_of, held_of, reached}, Hearing.{SendsCarried, ByTest, HearsAll}, Line.{missing, own_echo}, Pacing.PaceState, Packets.{heard_in, takes_relay}, Packing.ArePacked, Relays.{AreHandedOn, AreLacked, Handed, handed_part}, Ends.{excludes, left_by, told_cause}, Text.{IsBundle, parts_bytes, sealed_bytes}, Packing.{parts_room}, Pacing.{is_brief}, Relays.{IsNewest, newest_from}}
+use Rattle.dn_link.specs.{declared.{received.Received.{TheVariants.{Unopened, Stranger, GivenUp, Excluded, Heard}, Received}, bundle.{Bundle.Bundle, BundleFault.BundleFault, Carried.Carried, Part.Part}, line.Line.Line, tally.Figures.Figures}, Kept.{Unacknowledged, acknowledged, going, kept_after, taken_by}, Reading.IsBundledAs, Counting.{counts_of, held_of, reached}, Hearing.{SendsCarried, ByTest, HearsAll}, Line.{missing, own_echo}, Pacing.PaceState, Packets.{heard_in, takes_relay}, Packing.ArePacked, Relays.{AreHandedOn, AreLacked, Handed, handed_part}, Ends.{excludes, left_by, told_cause}, Text.{IsBundle, sealed_bytes}, Packing.{parts_room}, Pacing.{is_brief}, Relays.{IsNewest, newest_from}}
 use Rattle.dn_link.specs.declared.bundle.Relay as relay
 
 -- what it keeps of a peer: the packets that the peer has not acknowledged, the most that the peer's datagrams
@@ -76,10 +76,11 @@ HandsNewest link to [] =
 HandsNewest link to (one ∷ []) = IsNewest link.node (newest_from (link.peers to).reported link.node) one
 HandsNewest link to (one ∷ other ∷ handed) = ⊥
 
--- a datagram to a peer: what is kept for the peer, with the packet of the moment if the peer takes it, and behind
--- these commands of at most two third players; but in a brief one the newest commands of the node alone, handed on as if they were a third player's, so that the peer takes none past a gap; how far the node is;
--- what it reports of those who are given up; by how many commands it led at its last tick; how many datagrams of the
--- peer are missing; and why the node has ended, if it has
+-- A datagram to a peer: what is kept for the peer, with the packet of the moment if the peer takes it, and
+-- behind these commands of at most two third players. A brief one has the newest commands of the node alone,
+-- handed on as if they were a third player's, so that the peer takes none past a gap. Each has how far the
+-- node is; what it reports of those who are given up; by how many commands it led at its last tick; how many
+-- datagrams of the peer are missing; and why the node has ended, if it has
 pub record Gives (seal : Seal) (pace : PaceState) (to : ℕ) (old new : Linked) (bytes : List ℕ) : Type 0 where
   pub given : Option Carried
   pub step : SendsCarried to old.node new.node given

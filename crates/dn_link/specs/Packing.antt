@@ -1,7 +1,7 @@
 -- Packets that are written as parts.
 use Rattle.std.specs.{Prelude.{◌≡◌, ◌≢◌, ◌<◌, ◌≤◌, ℕ, ◌+◌, ◌*◌, ◌/◌, ◌%◌, ◌^◌, List, [], ◌∷◌, length, take, map, All, nat_lt, if◌then◌else◌, ◌++◌}, List.flat_map}
 use Rattle.dn_seal.specs.declared.opened.Opened.{Opened}
-use Rattle.dn_link.specs.{declared.{bundle.{Carried.Carried, Part.{Part, TheVariants.{Whole, Run, Relay}}}, packing.Packing.Packing}, Packets.{opened_from, packets_of, short_packet}, Text.{parts_bytes, IsPart}}
+use Rattle.dn_link.specs.{declared.{bundle.{Carried.Carried, Part.{Part, TheVariants.{Whole, Run, Relay}}}, packing.Packing.Packing}, Packets.{opened_from, packets_of, short_packet}, Text.{IsPart}}
 use Rattle.dn_link.specs.declared.bundle.Run as run
 
 -- how many bytes a part is given room for: as many as it takes with its commands whole

@@ -1,19 +1,16 @@
 -- Rounds of the links of a game, of those who play.
-use Rattle.std.specs.Prelude.{◌≡◌, ◌≢◌, ◌<◌, ◌≤◌, ◌+◌, ℕ, suc, Bool, false, true, ℤ, List, Option, Some, length}
+use Rattle.std.specs.Prelude.{◌≡◌, ◌≢◌, ◌<◌, ◌≤◌, ◌+◌, ◌⊎◌, ℕ, suc, Bool, false, true, ℤ, List, Option, Some, length}
 use Rattle.dn_tic.specs.{declared.command.Move.Move, declared.input.Input.Input}
 use Rattle.dn_setup.specs.Settings.{Settings}
 use Rattle.dn_machine.specs.{declared.answers.Made.Made, declared.answers.Phase.TheVariants.Playing, declared.answers.Ran.Ran, Limits.Limits}
-use Rattle.dn_lockstep.specs.{Contents.Contents, Told.Builds, Told.got, Told.made, Marking.Marking}
+use Rattle.dn_lockstep.specs.{Told.Builds, Told.got, Told.made, Marking.Marking}
 use Rattle.dn_survivor.specs.OneGame.{Session}
 use Rattle.dn_seal.specs.declared.seal.Seal.{Seal}
-use Rattle.dn_link.specs.{declared.received.Received.Received, Counting.has_ended, RemainingLinks.AreRemainingLinks, RemainingLinks.IsGenuineIn, Surviving.RunsBut, CaughtUp.AreCaughtUp, CaughtUp.HasGrown, CaughtUp.IsInStepTo, CaughtUp.next_to, Linked.end_known, Linked.Gives, Linked.Linked, Linked.Receives, Pacing.PaceState, Pacing.{is_brief}}
+use Rattle.dn_link.specs.{declared.received.Received.Received, Counting.has_ended, Counting.has_of, RemainingLinks.AreRemainingLinks, RemainingLinks.IsGenuineIn, RemainingLinks.IsLater, Surviving.RunsBut, CaughtUp.AreCaughtUp, CaughtUp.HasGrown, CaughtUp.IsInStepTo, CaughtUp.next_to, Linked.Gives, Linked.Linked, Linked.Receives, Pacing.PaceState, Pacing.{is_brief}}
 
--- it knows a player's end, and has all commands before it
-abbrev pub HasAllOf : Contents → ℕ → Type 0
-HasAllOf node player = (end : ℕ) × (end_known node player ≡ Some end) × (end ≤ got node player)
-
--- the links of a game from one moment to another, in which each player plays all the time, or has left before, as all
--- know who play. From each moment to the next they grow, as they do by any calls on them (`links_stay_caught_up`)
+-- the links of a game from one moment to another, in which each player plays, still at the last moment, or has left
+-- before. From each moment to the next they grow, as they do by any calls on them (`links_stay_caught_up`), in a later
+-- session
 pub record Stretch (marking : Marking) (limits : Limits) (settings : Settings) (last : ℕ) : Type 0 where
   pub sessions : ℕ → Session
   pub links : ℕ → ℕ → Linked
@@ -21,12 +18,9 @@ pub record Stretch (marking : Marking) (limits : Limits) (settings : Settings) (
   pub are : (moment : ℕ) → moment ≤ last → AreRemainingLinks marking limits settings (sessions moment) (links moment)
   pub caught_up : (moment : ℕ) → moment ≤ last → AreCaughtUp limits (links moment)
   pub grows : (moment : ℕ) → moment < last → HasGrown limits (links moment) (links (suc moment))
-  pub plays : (moment player : ℕ) → moment ≤ last → player < limits.players → left player ≡ false
-      → (links moment player).node.phase ≡ Playing
-  pub ended : (moment player : ℕ) → moment ≤ last → player < limits.players → left player ≡ true
-      → has_ended (links moment player).node ≡ true
-  pub known : (moment player peer : ℕ) → moment ≤ last → player < limits.players → left player ≡ false
-      → peer < limits.players → left peer ≡ true → HasAllOf (links moment player).node peer
+  pub plays : (player : ℕ) → player < limits.players → left player ≡ false → (links last player).node.phase ≡ Playing
+  pub ended : (player : ℕ) → player < limits.players → left player ≡ true → has_ended (links 0 player).node ≡ true
+  pub later : (moment : ℕ) → moment < last → IsLater (sessions moment) (sessions (suc moment))
 
 -- one of its players plays
 abbrev pub Plays : {marking : Marking} {limits : Limits} {settings : Settings} {last : ℕ}
@@ -96,10 +90,25 @@ pub record Arrives {marking : Marking} {limits : Limits} {settings : Settings} {
   pub in_step : IsInStepTo seal limits (stretch.links taken) peer (datagrams.bytes which)
   pub takes : Receives seal (datagrams.bytes which) (stretch.links taken peer) (stretch.links (suc taken) peer) answer
 
--- the lines between those who play let one datagram of any k rounds through, at most d rounds late
+-- the line to a peer lets one datagram of any k rounds through, at most d rounds late
+abbrev pub IsFairLine : {marking : Marking} {limits : Limits} {settings : Settings} {last : ℕ}
+    {stretch : Stretch marking limits settings last} {count : ℕ} → AreRounds stretch count → Seal
+    → (k d player peer : ℕ) → Type 0
+IsFairLine {marking} {limits} {settings} {last} {stretch} {count} rounds seal k d player peer =
+    (datagrams : Datagrams stretch seal player peer)
+    × ((first : ℕ) → first + k + d ≤ count → Arrives rounds datagrams k d first)
+
+-- a player has left, and a peer had all of its commands, and its end, at the first moment
+abbrev pub IsKnown : {marking : Marking} {limits : Limits} {settings : Settings} {last : ℕ}
+    → Stretch marking limits settings last → (player peer : ℕ) → Type 0
+IsKnown {marking} {limits} {settings} {last} stretch player peer =
+    (stretch.left player ≡ true)
+    × (got (stretch.links 0 player).node player + 1 ≤ has_of (stretch.links 0 peer).node player)
+
+-- the lines to those who play do, but from whom they know to have left; and if any other has left, the window is
+-- eleven at most
 abbrev pub AreFairLines : {marking : Marking} {limits : Limits} {settings : Settings} {last : ℕ}
     {stretch : Stretch marking limits settings last} {count : ℕ} → AreRounds stretch count → Seal → ℕ → ℕ → Type 0
 AreFairLines {marking} {limits} {settings} {last} {stretch} {count} rounds seal k d =
-    (player peer : ℕ) → Plays stretch player → Plays stretch peer → peer ≢ player
-    → (datagrams : Datagrams stretch seal player peer)
-    × ((first : ℕ) → first + k + d ≤ count → Arrives rounds datagrams k d first)
+    (player peer : ℕ) → player < limits.players → Plays stretch peer → peer ≢ player → IsKnown stretch player peer
+    ⊎ ((stretch.left player ≡ true → limits.ahead ≤ 11) × IsFairLine rounds seal k d player peer)

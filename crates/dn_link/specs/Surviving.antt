@@ -1,5 +1,5 @@
 -- What becomes of a link that gives up a player: of its peers, of its runs, and of what it hands on.
-use Rattle.std.specs.Prelude.{◌≡◌, ℕ, ◌&&◌, Bool, false, true, not, Option, Some, None, ℤ, List, [], ◌∷◌, ◌≤◌, ◌||◌, length, slice_index, ◌++◌}
+use Rattle.std.specs.Prelude.{◌≡◌, ℕ, ◌&&◌, Bool, false, true, not, Option, Some, None, ℤ, List, [], ◌∷◌, ◌≤◌, ◌||◌, length, slice_index}
 use Rattle.dn_tic.specs.declared.command.Move.{Move}
 use Rattle.dn_machine.specs.{declared.answers.Ran.Ran, Sparing.on_run_but}
 use Rattle.dn_lockstep.specs.{Steps.{RunsBy}, Told.{command_told}}

@@ -1,5 +1,5 @@
 -- What bytes tell, part by part.
-use Rattle.std.specs.{Prelude.{ℕ, zero, suc, ◌+◌, ◌-◌, ◌*◌, ◌/◌, ◌%◌, ◌==◌, ◌||◌, nat_lt, if◌then◌else◌, List, [], ◌∷◌, length, take, drop, slice_index, Option, Some, None}, Option.option_map, Int.{w8, w16, w32, cast_signed, from_le_bytes}, List.{starts_with}, Option.{option_and_then}, Prelude.{nat_eq, ◌++◌}}
+use Rattle.std.specs.{Prelude.{ℕ, zero, suc, ◌+◌, ◌*◌, ◌/◌, ◌%◌, ◌==◌, ◌||◌, nat_lt, if◌then◌else◌, List, [], ◌∷◌, length, take, drop, slice_index, Option, Some, None}, Option.option_map, Int.{w8, w16, w32, cast_signed, from_le_bytes}, List.{starts_with}, Option.{option_and_then}, Prelude.{nat_eq, ◌++◌}}
 use Rattle.dn_seal.specs.Opening.{ask_in}
 use Rattle.dn_link.specs.{declared.bundle.{Bundle.Bundle, Carried.Carried, Counts.Counts, Part.{Part, TheVariants.{Whole, Run, Relay}}}, Text.part_bytes, Differences.{difference, zeros}}
 use Rattle.dn_link.specs.declared.bundle.Run as run

@@ -10,7 +10,7 @@ ghost use Rattle.dn_open.specs.Sealed.{sealing_of};
 ghost use Rattle.dn_seal.specs.declared.seal.Seal.{Seal};
 ghost use Rattle.dn_link.specs.{CaughtUp.{Brings, HasExit, HasGrown, IsInStep, AreCaughtUp, IsInStepTo, StayCaughtUp, WasInStep, next_to}, Kept.{end_of, taken_by}, Reading.IsDatagramOf};
 ghost use Rattle.dn_link.specs.{declared.{bundle.{Bundle.Bundle, Carried.Carried}, received.Received.Received}, RemainingLinks.{AreRemainingLinks, IsGenuineIn}, Counting.{has_ended, has_of}, Linking.new_peer, Packets.own_in};
-ghost use Rattle.dn_link.specs.{Rounds.{AreRounds, AreFairLines, Plays, Stretch}, Linked.{Gives, Linked, Receives}, Pacing.PaceState, Surviving.RunsBut};
+ghost use Rattle.dn_link.specs.{Rounds.{AreRounds, AreFairLines, Plays, Stretch}, Linked.{Gives, Linked, Receives, probe, probe_for, probed}, Pacing.PaceState, Surviving.RunsBut, Text.IsBundle};
 ghost use Rattle.dn_link.specs.Pacing.{is_brief};
 
 use crate::laws::bundles_are_read_back;
@@ -28,7 +28,7 @@ pub fn links_open_caught_up()
 {}
 
 /// And so they stay after each call on one of them, as long as what it opens was sealed in this game before, in
-/// step; what `Link::datagram` gives is in step, unless it comes too late.
+/// step; what `Link::datagram` gives is in step, unless it comes too late, and so is what `Link::probe` gives.
 pub fn links_stay_caught_up()
     ensures built { (marking : Marking) (limits : Limits) (settings : Settings) (session : Session) (links : ℕ → Linked)
         (player : ℕ) (new : Linked) (input : Input) (made : Made)
@@ -54,6 +54,12 @@ pub fn links_stay_caught_up()
         → (has_ended (links to).node ≡ false
         → made (links player).node ≤ next_to (links player).node to + (links player).node.places)
         → Gives seal pace to (links player) new bytes
+        → WasInStep seal limits (put links player new) bytes × StayCaughtUp limits links player new }
+    ensures probed { (marking : Marking) (limits : Limits) (settings : Settings) (session : Session) (links : ℕ → Linked)
+        (player to : ℕ) (seal : Seal) (pace : PaceState) (new : Linked) (bytes : List ℕ)
+        → AreRemainingLinks marking limits settings session links → AreCaughtUp limits links → player < limits.players
+        → IsBundle (probe pace (links player) to) → probe_for seal pace (links player) to ≡ Some bytes
+        → new ≡ probed (links player) to
         → WasInStep seal limits (put links player new) bytes × StayCaughtUp limits links player new }
     ensures received { (marking : Marking) (limits : Limits) (settings : Settings) (session : Session) (links : ℕ → Linked)
         (player : ℕ) (seal : Seal) (bytes : List ℕ) (new : Linked) (answer : Received)
@@ -157,7 +163,7 @@ pub fn links_bring_all()
 /// after r rounds each has run at least r + 1 - (k + d) tics more than all had run at first. A round is a
 /// player's own: one command is asked for, and later tics are run until one is waited for. From one datagram that a
 /// player gives another to the next it makes eleven commands at most; so a round may go by without one. Others may have
-/// left before, if all who play know their ends.
+/// left before, if who plays knows their ends at first, or the lines from them do the same.
 pub fn links_run_on()
     ensures goes_on { (marking : Marking) (limits : Limits) (settings : Settings) (last : ℕ)
         (stretch : Stretch marking limits settings last) (count : ℕ) (rounds : AreRounds stretch count) (seal : Seal)

@@ -44,10 +44,11 @@ pub fn links_have_windows()
 }
 
 /// And so they stay after each call on one of them, whatever bytes come in, as long as what it opens was sealed
-/// in this game before: what `Link::datagram`, `Link::probe` and `Link::exclusion_datagram` give was. At a run the caller hands
-/// in the marks of a world that moved on by the rows that it was told, of the players who take part in the tic.
-/// Whom a link gives up, and when, is not asked. `built` is of `build`, `give` and `catch_up`, `gave` of
-/// `datagram`, `probed` of `probe`, `received` of `receive`, and `kept` of a call that changes nothing.
+/// in this game before: what `Link::datagram`, `Link::probe` and `Link::exclusion_datagram` give was. At a run
+/// the caller hands in the marks of a world that moved on by the rows that it was told, of the players who take
+/// part in the tic. Whom a link gives up, and when, is not asked. `built` is of `build`, `give` and `catch_up`,
+/// `gave` of `datagram`, whose clauses `fair` and `gives` it asks for, `probed` of `probe`, `received` of
+/// `receive`, and `kept` of a call that changes nothing.
 pub fn remaining_links_go_on()
     ensures built { (marking : Marking) (limits : Limits) (settings : Settings) (session : Session) (links : ℕ → Linked)
         (player : ℕ) (new : Linked) (input : Input) (made : Made)

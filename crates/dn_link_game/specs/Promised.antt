@@ -21,9 +21,9 @@ seen_after events answers seen = seen
 abbrev pub all_seen : List LinkEvent → List (Result LinkDone LinkRefusal) → ℕ → Seen
 all_seen events answers = seen_after events answers (λ player. nothing_seen)
 
--- each event was done, or refused for what is wrong with it; and if the bytes that came in were genuine, the players
--- agree, on the inputs of which commands were made and the rows that were told, as far as they did not give each other up; and
--- no answer told of a failed check
+-- Each event was done, or refused for what is wrong with it. If the bytes that came in were genuine, no answer
+-- tells of a failed check, and the players agree as far as they did not give each other up: on the inputs of
+-- which commands were made, and on the rows that were told
 pub record HavePlayed {W S : Type 0} (state : W → S) (physics : Physics S) (limits : Limits) (settings : Settings)
     (seal : Seal) (events : List LinkEvent) (answers : List (Result LinkDone LinkRefusal)) (g : LinkGame W) : Type 0
   where

@@ -1,21 +1,18 @@
 -- What the locksteps of one game tell of themselves agrees, since the machine's nodes that they represent do.
-use Rattle.std.proofs.Common.{◌≡◌, ◌<◌, ℕ, ◌+◌, true, false, List, [], take, Some, ap, sym, ◌∙◌, arith, ℤ}
-use Rattle.std.proofs.{lemmas.Bool.cond-true, lemmas.List.FromFn.fill_by_all}
-use Rattle.std.specs.{Prelude.{unwrap_or, Ok}, List.take_while}
-use Rattle.dn_tic.specs.{Inputs.made_by, declared.command.TicCmd.TicCmd, declared.input.Input.Input}
+use Rattle.std.proofs.Common.{◌≡◌, ◌<◌, ℕ, ◌+◌, true, false, List, [], take, Some, ap, sym, ◌∙◌, arith, ℤ, unwrap_or}
+use Rattle.std.proofs.{Common.{Ok, take_while}, lemmas.{Bool.cond-true, List.FromFn.fill_by_all}}
+use Rattle.dn_tic.specs.{Inputs.made_by, declared.{command.TicCmd.TicCmd, input.Input.Input}}
 use Rattle.dn_tic.proofs.Making.{made_by-mark}
 use Rattle.dn_setup.specs.Settings.{Settings, start_of}
 use Rattle.dn_demo.specs.{Layout.long_tics, Reading.IsReadAs, Text.demo_text}
 use Rattle.dn_machine.specs.{Game.Game, Node.{is_ended, is_whole, has_left, demo_rows}}
-use Rattle.dn_machine.specs.Promise.{Agree, Fits, inputs_of, end_or}
-use Rattle.dn_machine.specs.Worlds.{Inputs, Rules, command, row_by_inputs}
-use Rattle.dn_machine.specs.Node as machine
+use Rattle.dn_machine.specs.{Promise.{Agree, Fits, inputs_of, end_or}, Worlds.{Inputs, Rules, command, row_by_inputs}}
 use Rattle.dn_machine.proofs.{Invariant.IsKept, RowsByInputs.row_is}
-use Rattle.dn_machine.proofs.Promises
 use Rattle.dn_lockstep.specs.{Agreed.{AreAgreed, rows_to, rows_made, demo_made, is_closed}, Contents.{Contents, end_in}}
-use Rattle.dn_lockstep.specs.Represents.{Represents}
-use Rattle.dn_lockstep.specs.{Rows.seats_of, Told.{HasStarted, got, made, command_told}}
+use Rattle.dn_lockstep.specs.{Represents.Represents, Rows.seats_of, Told.{HasStarted, got, made, command_told}}
 use Rattle.dn_lockstep.proofs.{DemosAgreeing.demos_of, Moving.read_back}
+use Rattle.dn_machine.specs.Node as machine
+use Rattle.dn_machine.proofs.Promises
 use Rattle.dn_lockstep.proofs.Shown
 
 -- a command with any mark, and what it says of its own
@@ -118,25 +115,24 @@ module _ {S : Type 0} (rules : Rules S) (settings : Settings) (last : Game)
       (own_end q m told.0 ∙ ap (λ (k : ℕ). Some k) (sym told.1), told.1 ∙ sym (makes q m))
 
   pub agreed : AreAgreed rules.limits settings inputs locksteps
-  agreed =
-      record {
-        numbers = λ p l. (shown p l).whose.number;
-        several = λ p l. (shown p l).whose.players;
-        playing = λ p l e. starts p l ((kept.sound p l).playing (sym (shown p l).stands.phase ∙ e));
-        settings_same = λ p l begun. (shown p l).stands.settings ∙ settings_are p l (played p l begun);
-        demos = demos_of rules.players settings inputs locksteps text_is (λ p l. (shown p l).whose.players);
-        read_back = reads_back;
-        counted = λ p l. makes p l ∙ kept.from_inputs.counted p l;
-        told = λ p player tic c l e. told_by p l player tic c e;
-        told_same = λ p q player tic a b l m e f. told_is p l player tic a e ∙ sym (told_is q m player tic b f);
-        consistent = grind (arith, shown);
-        ends = ends;
-        ends_same = grind (arith, ends);
-        run = grind (arith, fits, end_until, ran, has);
-        unread = λ p q l m. omega (arith, ran p l, has p l q m, fits.unread p q l m);
-        held = λ p q l m. omega (arith, has p l q m, makes q m, fits.held p q l m);
-        unheard = grind (arith, fits, playing_on, has, makes);
-        ahead = λ p l. omega (arith, ran p l, makes p l, fits.ahead p l);
-        close = grind (arith, fits, playing_on, makes);
-        most = λ p l fit. omega (arith, ran p l, fits.most p l fit);
-      }
+  agreed = record {
+    numbers = λ p l. (shown p l).whose.number;
+    several = λ p l. (shown p l).whose.players;
+    playing = λ p l e. starts p l ((kept.sound p l).playing (sym (shown p l).stands.phase ∙ e));
+    settings_same = λ p l begun. (shown p l).stands.settings ∙ settings_are p l (played p l begun);
+    demos = demos_of rules.players settings inputs locksteps text_is (λ p l. (shown p l).whose.players);
+    read_back = reads_back;
+    counted = λ p l. makes p l ∙ kept.from_inputs.counted p l;
+    told = λ p player tic c l e. told_by p l player tic c e;
+    told_same = λ p q player tic a b l m e f. told_is p l player tic a e ∙ sym (told_is q m player tic b f);
+    consistent = grind (arith, shown);
+    ends = ends;
+    ends_same = grind (arith, ends);
+    run = grind (arith, fits, end_until, ran, has);
+    unread = λ p q l m. omega (arith, ran p l, has p l q m, fits.unread p q l m);
+    held = λ p q l m. omega (arith, has p l q m, makes q m, fits.held p q l m);
+    unheard = grind (arith, fits, playing_on, has, makes);
+    ahead = λ p l. omega (arith, ran p l, makes p l, fits.ahead p l);
+    close = grind (arith, fits, playing_on, makes);
+    most = λ p l fit. omega (arith, ran p l, fits.most p l fit);
+  }

@@ -1,36 +1,28 @@
 -- What a node represents once a part of it has changed: commands, a peer, the start, the end; and what a
 -- build makes.
-use Rattle.std.proofs.Common.{◌≡◌, ◌≢◌, ℕ, List, arith, true, false, [], Some, ◌<◌, ◌≤◌, pos, Option, None, sym, ◌⊎◌, Bool, ap, ◌+◌, ◌-◌, ◌%◌, ℤ, ◌∷◌, ◌++◌, ltb, true≢false, ◌∙◌, inl, inr}
-use Rattle.std.proofs.lemmas.{List.nil_from_length, Bool.{lt-ltb, cond-true, le-ltb, cases_Bool}}
-use Rattle.std.proofs.lemmas.Bool.Decides.{leb_tells}
-use Rattle.dn_tic.specs.{declared.input.Input.Input, Inputs.{hold_of, made_by}, declared.command.TicCmd.TicCmd}
+use Rattle.std.proofs.Common.{◌≡◌, ◌≢◌, ℕ, List, arith, true, false, [], Some, ◌<◌, ◌≤◌, pos, Option, None, sym, ◌⊎◌, Bool, ap, ◌+◌, ◌-◌, ◌%◌, ℤ, ◌∷◌, ◌++◌, ltb, true≢false, ◌∙◌, inl, inr, nat_lt, is_some, ◌==◌, if◌then◌else◌}
+use Rattle.std.proofs.lemmas.{List.nil_from_length, Bool.{lt-ltb, cond-true, le-ltb, cases_Bool, Decides.leb_tells}}
+use Rattle.dn_tic.specs.{declared.{input.Input.Input, command.TicCmd.TicCmd}, Inputs.{hold_of, made_by}}
 use Rattle.dn_ring.specs.Ring.{Ring}
 use Rattle.dn_machine.specs.{Limits.Limits, Node.{put, with_peer, ends_of, Node, own_mark, lowest}}
-use Rattle.dn_machine.specs.declared.peer.Peer.{Peer}
+use Rattle.dn_machine.specs.declared.{peer.Peer.Peer, answers.{Phase.Phase, Cause.{Cause, TheVariants.Quit}, Made.Made}}
 use Rattle.dn_machine.specs.declared.answers.Phase.TheVariants.{Playing, Listening, Gathering, Ended}
-use Rattle.dn_machine.specs.{Hearing.{started, after_request, after_exit, is_strange_end}, declared.answers.Cause.TheVariants.Quit}
-use Rattle.dn_machine.specs.{declared.answers.Cause.Cause, Running.{on_quit, on_quit_in, is_over}}
-use Rattle.dn_machine.specs.{declared.answers.Phase.Phase, declared.answers.Made.Made, Sending.{on_build, on_build_by}}
-use Rattle.dn_machine.specs.Node as machine
-use Rattle.dn_machine.proofs.Put.{put_at, put_off}
-use Rattle.dn_machine.proofs.Truth.{lowest_none, lowest_none_each}
-use Rattle.dn_lockstep.specs.{Tables.ring_of, Contents.Contents}
-use Rattle.dn_lockstep.specs.{Represents.{Represents, marked_to, CanBeWritten}, Rows.{seats_of, has_gone, is_gone}}
-use Rattle.dn_lockstep.specs.{Told.{is_made, makes}, Phases.is_playing}
+use Rattle.dn_machine.specs.{Running.{on_quit, on_quit_in, is_over}, Sending.{on_build, on_build_by}}
+use Rattle.dn_machine.specs.Hearing.{started, after_request, after_exit, is_strange_end}
+use Rattle.dn_machine.proofs.{Put.{put_at, put_off}, Truth.{lowest_none, lowest_none_each}}
+use Rattle.dn_lockstep.specs.{Tables.ring_of, Contents.Contents, Represents.{Represents, marked_to, CanBeWritten}}
+use Rattle.dn_lockstep.specs.{Rows.{seats_of, has_gone, is_gone}, Told.{is_made, makes}, Phases.is_playing}
 use Rattle.dn_setup.specs.Settings.{Settings, start_of}
-use Rattle.dn_demo.specs.{Recorded.Recorded, declared.recorder.Stage.TheVariants.Open, Layout.long_tics}
-use Rattle.dn_demo.specs.Text.{demo_text}
-use Rattle.std.specs.Prelude.{nat_lt, is_some, ◌==◌, if◌then◌else◌}
-use Rattle.dn_lockstep.specs.Tables as last
+use Rattle.dn_demo.specs.{Recorded.Recorded, declared.recorder.Stage.TheVariants.Open, Layout.long_tics, Text.demo_text}
 use Rattle.dn_ring.proofs.Slots.{put-ring_of}
 use Rattle.dn_lockstep.proofs.Shown.{mine}
+use Rattle.dn_machine.specs.Node as machine
+use Rattle.dn_lockstep.specs.Tables as last
 
 pub shows_commands : {limits : Limits} {me : ℕ} {n : Contents} {m : machine.Node}
     (r : Represents limits me n m) (player hold : ℕ) (inputs : List Input) (commands : List TicCmd)
-    (rings : ℕ → Ring)
-    → hold ≡ hold_of inputs → rings player ≡ ring_of commands
-    → ((p : ℕ) → p ≢ player → rings p ≡ n.rings p)
-    → Represents limits me (record n { hold = hold; rings = rings })
+    (rings : ℕ → Ring) → hold ≡ hold_of inputs → rings player ≡ ring_of commands
+    → ((p : ℕ) → p ≢ player → rings p ≡ n.rings p) → Represents limits me (record n { hold = hold; rings = rings })
     (record m { inputs = inputs; held = put m.held player commands })
 shows_commands {m = m} r player hold inputs commands rings holds new others = grind (arith, put_at, put_off)
 
@@ -42,18 +34,15 @@ pub shows_peer : {limits : Limits} {me : ℕ} {n : Contents} {m : machine.Node}
 shows_peer {m = m} r player {peer} peers marked new others = grind (arith, put_at, put_off)
 
 pub shows_start : (limits : Limits) (me : ℕ) (n : Contents) (m : machine.Node)
-    (settings : Settings) (demo : Recorded)
-    → Represents limits me n m → n.ran ≡ 0
-    → demo.stage ≡ Open → demo.bytes ≡ demo_text long_tics (start_of settings) me (seats_of limits.players) []
-    false
+    (settings : Settings) (demo : Recorded) → Represents limits me n m → n.ran ≡ 0
+    → demo.stage ≡ Open → demo.bytes ≡ demo_text long_tics (start_of settings) me (seats_of limits.players) [] false
     → Represents limits me (record n { phase = Playing; played = true; settings = Some settings; demo = demo })
     (started m settings)
 shows_start limits me n m settings demo r unrun is_open written = grind (arith, nil_from_length)
 
 -- the settings of player 0 are those of the game, and nobody else has any
 pub settings_fresh : (me : ℕ) (own : Option Settings) (settings : Settings) → is_some own ≡ (me == 0)
-    → (me ≡ 0 → own ≡ Some settings)
-    → own ≡ (if me == 0 then Some settings else None)
+    → (me ≡ 0 → own ≡ Some settings) → own ≡ (if me == 0 then Some settings else None)
 settings_fresh me own settings keyed key = grind arith
 
 -- no rows can be written for any players
@@ -62,8 +51,7 @@ unfolding CanBeWritten
 nothing_written players some few = grind arith
 
 -- up to tic 12 every mark is 0
-pub first_marks : (m : Node) (p tic : ℕ) → tic < 12
-    → pos 0 ≡ own_mark m p tic
+pub first_marks : (m : Node) (p tic : ℕ) → tic < 12 → pos 0 ≡ own_mark m p tic
 first_marks m p tic early = sym (cond-true (nat_lt tic 12) _ _ (lt-ltb tic 12 early))
 
 module _ (m : Node) where
@@ -71,8 +59,7 @@ module _ (m : Node) where
   unfolding on_quit
   quit_ended cause e = ap (on_quit_in m) e
 
-  pub quit_playing : m.phase ≡ Playing → ◌≡◌ {A = Node × Bool} (on_quit m)
-      (record m { phase = Ended Quit }, true)
+  pub quit_playing : m.phase ≡ Playing → ◌≡◌ {A = Node × Bool} (on_quit m) (record m { phase = Ended Quit }, true)
   unfolding on_quit
   quit_playing e = ap (on_quit_in m) e
 
@@ -88,10 +75,7 @@ next_command me m input = made_by (m.inputs ++ input ∷ []) (own_mark m me (mac
 -- the machine's node once it has built
 abbrev pub built : ℕ → machine.Node → Input → machine.Node
 built me m input =
-    record m {
-      inputs = m.inputs ++ input ∷ [];
-      held = put m.held me (m.held me ++ next_command me m input ∷ []);
-    }
+    record m { inputs = m.inputs ++ input ∷ []; held = put m.held me (m.held me ++ next_command me m input ∷ []) }
 
 module _ (limits : Limits) (me : ℕ) (m : machine.Node) (input : Input) where
   pub build_not : m.phase ≢ Playing → ◌≡◌ {A = machine.Node × Made} (on_build limits me m input)
@@ -105,8 +89,7 @@ module _ (limits : Limits) (me : ℕ) (m : machine.Node) (input : Input) where
   build_full on ahead = grind arith
 
   pub build_makes : m.phase ≡ Playing → machine.made me m < machine.ran m + limits.ahead
-      → ◌≡◌ {A = machine.Node × Made} (on_build limits me m input)
-      (built me m input, Made.Made (machine.made me m))
+      → ◌≡◌ {A = machine.Node × Made} (on_build limits me m input) (built me m input, Made.Made (machine.made me m))
   unfolding on_build_by
   build_makes on near = grind arith
 
@@ -127,8 +110,7 @@ pub own_ring : (limits : Limits) (me : ℕ) (n : Contents) (m : machine.Node) (i
     → Represents limits me n m → n.me < n.players → tic ≡ machine.made me m → machine.ran m ≤ tic
     → tic < machine.ran m + 12
     → ends_of m me ≡ None → mark ≡ n.marks n.me (tic % 12) → command ≡ made_by (m.inputs ++ input ∷ []) mark
-    → ring ≡ last.put (n.rings n.me) command
-    → ring ≡ ring_of (m.held me ++ next_command me m input ∷ [])
+    → ring ≡ last.put (n.rings n.me) command → ring ≡ ring_of (m.held me ++ next_command me m input ∷ [])
 own_ring limits me n m input tic mark command ring r h made low high endless marked is e =
     grind (arith, mine, put-ring_of)
 

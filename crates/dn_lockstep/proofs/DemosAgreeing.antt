@@ -1,27 +1,18 @@
 -- Demos that are the texts of the rows which one list of inputs makes agree.
-use Rattle.std.proofs.Common.{◌≡◌, ◌<◌, ◌≤◌, ◌+◌, ◌*◌, ℕ, Bool, List, arith, zero, suc, ◌/◌, true, true≢false, [], ◌∷◌, ◌++◌, length, map, take, drop, get_or, Option, Some, None, is_some, refl, ap, sym, ◌∙◌, length-append, append_assoc, cond, pos, inl, inr, ltb, ◌≢◌, ◌⊎◌}
-use Rattle.std.proofs.{lemmas.List.{drop-drop, get_or-take, take-append-drop}, Math.Nat.mul-div_cancel_left}
-use Rattle.std.proofs.Math.Seq.{drop-append-add, take-append_seam}
-use Rattle.std.proofs.lemmas.Bool.{cases_lt, lt-ltb, lt-leb, leb-false}
+use Rattle.std.proofs.Common.{◌≡◌, ◌<◌, ◌≤◌, ◌+◌, ◌*◌, ℕ, Bool, List, arith, zero, suc, ◌/◌, true, true≢false, [], ◌∷◌, ◌++◌, length, map, take, drop, get_or, Option, Some, None, is_some, refl, ap, sym, ◌∙◌, length-append, append_assoc, cond, pos, inl, inr, ltb, ◌≢◌, ◌⊎◌, if◌then◌else◌, slice_get, ◌↔◌}
 use Rattle.std.proofs.lemmas.List.FromFn.{get_or-map-range_with_len, length-map-range_with_len, take-map-range_with_len}
-use Rattle.std.proofs.{lemmas.List.Folds.length-prefix_len, lemmas.List.Sums.prefix_len_stops}
-use Rattle.std.proofs.lemmas.Grind.{flat_map-append}
-use Rattle.dn_demo.specs.{Layout.{long_tics, command_size, spell}, Recorded.recorded_size, Text.{player_count, header_size, demo_text, marker, row_bytes, commands_of}}
-use Rattle.dn_demo.specs.Places.{place, commands_in, command_in}
-use Rattle.dn_lockstep.specs.Rows.{seats_of}
+use Rattle.std.proofs.lemmas.List.{drop-drop, get_or-take, take-append-drop, Folds.length-prefix_len}
+use Rattle.std.proofs.{lemmas.Bool.{cases_lt, lt-ltb, lt-leb, leb-false}, Math.Seq.{drop-append-add, take-append_seam}}
+use Rattle.std.proofs.{lemmas.{List.Sums.prefix_len_stops, Grind.flat_map-append}, Math.Nat.mul-div_cancel_left}
+use Rattle.dn_demo.specs.{Text.{player_count, header_size, demo_text, marker, row_bytes, commands_of}, Layout.long_tics}
+use Rattle.dn_demo.specs.{Layout.{command_size, spell}, Places.{place, commands_in, command_in}, Recorded.recorded_size}
+use Rattle.dn_lockstep.specs.{Rows.seats_of, Contents.Contents, Told.HasStarted}
 use Rattle.dn_lockstep.specs.Agreed.{rows_to, rows_made, move_made, DemosAgree, is_closed, tics_in, used_in, recorded}
-use Rattle.dn_lockstep.specs.Contents.{Contents}
-use Rattle.dn_lockstep.specs.Told.{HasStarted}
-use Rattle.std.specs.Prelude.{if◌then◌else◌, slice_get, ◌↔◌}
 use Rattle.std.specs.{List.prefix_len, Option.option_map}
-use Rattle.dn_tic.specs.declared.command.Move.{Move}
-use Rattle.dn_tic.specs.{declared.command.TicCmd.TicCmd, Command.used}
-use Rattle.dn_tic.specs.Inputs.{made_by}
-use Rattle.dn_setup.specs.declared.settings.Start.{Start}
-use Rattle.dn_setup.specs.Settings.{Settings, start_of}
+use Rattle.dn_tic.specs.{declared.command.{Move.Move, TicCmd.TicCmd}, Command.used, Inputs.made_by}
+use Rattle.dn_setup.specs.{declared.settings.Start.Start, Settings.{Settings, start_of}}
 use Rattle.dn_demo.proofs.Text.{long_tics_sound, length-spell, length-row_bytes}
-use Rattle.dn_machine.specs.{Worlds.{Inputs, if_made, row_by_inputs}, Node.is_whole, Limits.row_of}
-use Rattle.dn_machine.specs.Promise.{IsPrefixOf}
+use Rattle.dn_machine.specs.{Worlds.{Inputs, if_made, row_by_inputs}, Node.is_whole, Limits.row_of, Promise.IsPrefixOf}
 use Rattle.dn_machine.proofs.Demos.{front_passes, front_short, if_made_is, seat_is, whole_has, front_prefix}
 use Rattle.dn_machine.proofs.Truth.{lowest_none}
 use Rattle.dn_lockstep.proofs.Seats.{whole_each, seats_whole}
@@ -38,8 +29,7 @@ pub size_more : (old new row players ran : ℕ) → new ≡ old + row → row �
 size_more old new row players ran is long size = grind arith
 
 -- a row fits while fewer tics were run than fit
-pub row_fits : (limit players capacity ran size row : ℕ) → recorded_size players capacity ≤ limit
-    → ran < capacity
+pub row_fits : (limit players capacity ran size row : ℕ) → recorded_size players capacity ≤ limit → ran < capacity
     → size ≤ place long_tics (players * ran) → row ≡ command_size long_tics * players → size + row + 1 ≤ limit
 row_fits limit players capacity ran size row room below long e = grind arith
 
@@ -59,8 +49,7 @@ command_at (None ∷ row) (suc player) m rest before e = absurd (true≢false (s
 command_at (Some x ∷ row) (suc player) m rest before e =
     let size = length-spell long_tics x long_tics_sound in
     let on : 5 * suc player ≡ length (spell long_tics x) + 5 * player = omega arith in
-    rw (append_assoc, on, drop-append-add)
-    (command_at row player m rest (λ i l. before (suc i) (omega arith)) e)
+    rw (append_assoc, on, drop-append-add) (command_at row player m rest (λ i l. before (suc i) (omega arith)) e)
 
 module _ (players : ℕ) where
   row_size : (row : List (Option Move)) → (players ≤ 4) × (map is_some row ≡ seats_of players)
@@ -135,8 +124,7 @@ module _ (players : ℕ) where
 
 -- the headers of two texts differ in the view alone
 pub headers_same : (start : Start) (view other players : ℕ) (rows more : List (List (Option Move)))
-    (closed shut : Bool)
-    → take 8 (demo_text long_tics start view (seats_of players) rows closed) ++ take 4
+    (closed shut : Bool) → take 8 (demo_text long_tics start view (seats_of players) rows closed) ++ take 4
     (drop 9 (demo_text long_tics start view (seats_of players) rows closed))
     ≡ take 8 (demo_text long_tics start other (seats_of players) more shut) ++ take 4
     (drop 9 (demo_text long_tics start other (seats_of players) more shut))
@@ -221,9 +209,7 @@ module _ (players : ℕ) (inputs : Inputs) where
         → get_or (get_or rows tic []) player None ≡ Some (move_made inputs player tic)
     move_there tic player l below =
         let whole = whole_at tic l in
-        let few = whole_few tic whole in
-        let made = whole_made tic whole player below in
-        grind (arith, row_at tic l, seat_move)
+        grind (arith, whole_few tic whole, whole_made tic whole player below, row_at tic l, seat_move)
 
     -- they are those of the tics for which every player made a command
     pub made_by_all : (tic : ℕ) → tic < length rows → (p : ℕ) → p < players → tic < length (inputs p)
@@ -250,8 +236,7 @@ pub commands_prefix : (rows more : List (List (Option Move))) → IsPrefixOf row
     → IsPrefixOf (commands_of long_tics rows) (commands_of long_tics more)
 commands_prefix rows more (rest, whole) = (
   commands_of long_tics rest,
-  sym (flat_map-append (row_bytes long_tics) rows rest)
-      ∙ ap (commands_of long_tics) whole,
+  sym (flat_map-append (row_bytes long_tics) rows rest) ∙ ap (commands_of long_tics) whole,
 )
 
 -- lists that are equal to two of which one is a prefix of the other
@@ -304,8 +289,7 @@ module _ (players : ℕ) (settings : Settings) (inputs : Inputs) (locksteps : �
         → used_in (locksteps p) tic player ≡ spell long_tics (move_made inputs player tic)
     used_are tic player there its = grind (arith, begun_or, tics_are, command_in_text, rows_full, move_there)
 
-    tics_made : (tic : ℕ) → players ≤ 4 → HasStarted (locksteps p)
-        → (tic < tics_in (locksteps p))
+    tics_made : (tic : ℕ) → players ≤ 4 → HasStarted (locksteps p) → (tic < tics_in (locksteps p))
         ↔ ((tic < ran) × ((player : ℕ) → player < players → tic < length (inputs player)))
     tics_made tic few started =
         let count = tics_are started in
@@ -341,13 +325,12 @@ module _ (players : ℕ) (settings : Settings) (inputs : Inputs) (locksteps : �
   ]
 
   pub demos_of : DemosAgree players settings inputs locksteps
-  demos_of =
-      record {
-        texts = texts;
-        tics = λ p tic few below started. tics_made p below tic few started;
-        commands = λ p tic player below there its. used_are p below tic player there its;
-        same = grind (arith, used_are);
-        prefixes = two_prefixes;
-        headers = grind (arith, headers_same);
-        views = grind (arith, view_of_text);
-      }
+  demos_of = record {
+    texts = texts;
+    tics = λ p tic few below started. tics_made p below tic few started;
+    commands = λ p tic player below there its. used_are p below tic player there its;
+    same = grind (arith, used_are);
+    prefixes = two_prefixes;
+    headers = grind (arith, headers_same);
+    views = grind (arith, view_of_text);
+  }

@@ -1,22 +1,16 @@
 -- What a gathering node makes of a peer that it hears, and of a player who is excused.
-use Rattle.std.proofs.Common.{◌-◌, subst, ap, inl, inr}
-use Rattle.std.proofs.lemmas.Bool.{cases_Bool, ltb-true}
-use Rattle.std.specs.Prelude.{nat_lt}
-use Rattle.dn_machine.specs.Game.{fresh}
-use Rattle.dn_machine.specs.Started.{started_node, heard_by, key_node}
+use Rattle.std.proofs.Common.{◌-◌, subst, ap, inl, inr, nat_lt, ◌≡◌, ◌≢◌, ◌<◌, ℕ, Bool, true, false, refl, sym, ◌∙◌}
+use Rattle.std.proofs.{Common.{arith, ◌≤◌, ◌+◌, zero, suc, Some}, lemmas.Bool.{cases_Bool, ltb-true}}
+use Rattle.dn_machine.specs.{Game.fresh, Started.{started_node, heard_by, key_node}, declared.answers.Heard.Heard}
+use Rattle.dn_machine.specs.{declared.answers.Phase.TheVariants.Gathering, Limits.Limits, Node.put}
+use Rattle.dn_machine.specs.Hearing.{on_gathering, started}
 use Rattle.dn_machine.proofs.Started.{key_first, key_gathers, hears_next}
-use Rattle.dn_lockstep.specs.Opening.{IsGame}
-use Rattle.dn_lockstep.specs.Steps.{Steps, Becomes}
-use Rattle.dn_lockstep.proofs.After.{along}
-use Rattle.std.proofs.Common.{◌≡◌, ◌≢◌, ◌<◌, ℕ, Bool, true, false, refl, sym, ◌∙◌, arith, ◌≤◌, ◌+◌, zero, suc, Some}
-use Rattle.dn_machine.specs.{declared.answers.Heard.Heard, declared.answers.Phase.TheVariants.Gathering}
-use Rattle.dn_machine.specs.{Limits.Limits, Hearing.{on_gathering, started}, Node.put}
-use Rattle.dn_machine.specs.Node as machine
-use Rattle.dn_lockstep.specs.{Contents.Contents, Represents.Represents}
-use Rattle.dn_lockstep.specs.{Settling.{is_no_peer, is_start, on_excuse, on_excuse_in}, Steps.IsAfter}
-use Rattle.dn_lockstep.proofs.After.{after}
+use Rattle.dn_lockstep.specs.{Opening.IsGame, Steps.{Steps, Becomes, IsAfter}, Contents.Contents, Represents.Represents}
+use Rattle.dn_lockstep.specs.Settling.{is_no_peer, is_start, on_excuse, on_excuse_in}
+use Rattle.dn_lockstep.proofs.After.{along, after}
 use Rattle.std.specs.{Prelude.{◌||◌, ◌&&◌, ◌==◌}, List.{list_all, range_with_len}}
 use Rattle.dn_setup.specs.{Settings.Settings, Gathered.{Gathered, is_noted, is_peer, all_noted}}
+use Rattle.dn_machine.specs.Node as machine
 
 -- another player has a number of the game
 pub peer_below : (players me player : ℕ) → is_no_peer players me player ≡ false → player < players
@@ -63,36 +57,32 @@ noted_same : (players : ℕ) (one other : ℕ → Bool) → ((p : ℕ) → is_pe
     → all_noted players one ≡ all_noted players other
 noted_same players one other same = grind (arith, all_same)
 
-module _ (limits : Limits) (me : ℕ) (n : Contents) (m : machine.Node)
-    (r : Represents limits me n m)
+module _ (limits : Limits) (me : ℕ) (n : Contents) (m : machine.Node) (r : Represents limits me n m)
     (from : ℕ) (gather : Gathered) (players : gather.players ≡ n.gather.players)
-    (heard : (p : ℕ) → is_noted gather p ≡ (is_noted n.gather p || (p == from && is_peer n.gather.players p)))
-  where
-    now_noted : (p : ℕ) → is_peer limits.players p ≡ true → is_noted gather p ≡ put m.noted from true p
-    now_noted p peer = grind arith
+    (heard : (p : ℕ) → is_noted gather p ≡ (is_noted n.gather p || (p == from && is_peer n.gather.players p))) where
+  now_noted : (p : ℕ) → is_peer limits.players p ≡ true → is_noted gather p ≡ put m.noted from true p
+  now_noted p peer = grind arith
 
-    pub shows_noted : Represents limits me (record n { gather = gather })
-        (record m { noted = put m.noted from true })
-    shows_noted = grind (arith, now_noted)
+  pub shows_noted : Represents limits me (record n { gather = gather })
+      (record m { noted = put m.noted from true })
+  shows_noted = grind (arith, now_noted)
 
-    all_heard : (complete : Bool) → complete ≡ all_noted gather.players (is_noted gather)
-        → all_noted limits.players (put m.noted from true) ≡ complete
-    all_heard complete is = grind (arith, noted_same, now_noted)
+  all_heard : (complete : Bool) → complete ≡ all_noted gather.players (is_noted gather)
+      → all_noted limits.players (put m.noted from true) ≡ complete
+  all_heard complete is = grind (arith, noted_same, now_noted)
 
-    pub noted_shows : false ≡ all_noted gather.players (is_noted gather)
-        → IsAfter limits me (record n { gather = gather }) (on_gathering limits m from)
-        (λ answer. Heard.Noted ≡ answer)
-    noted_shows some =
-        let more = all_heard false some in
-        after (record m { noted = put m.noted from true }) Heard.Noted (rw more refl) shows_noted refl
+  pub noted_shows : false ≡ all_noted gather.players (is_noted gather)
+      → IsAfter limits me (record n { gather = gather }) (on_gathering limits m from)
+      (λ answer. Heard.Noted ≡ answer)
+  noted_shows some =
+      let more = all_heard false some in
+      after (record m { noted = put m.noted from true }) Heard.Noted (rw more refl) shows_noted refl
 
-    pub started_shows : (settings : Settings) (started_as : Contents)
-        → true ≡ all_noted gather.players (is_noted gather) → n.settings ≡ Some settings
-        → Represents limits me started_as (started (record m { noted = put m.noted from true }) settings)
-        → IsAfter limits me started_as (on_gathering limits m from) (λ answer. Heard.Started ≡ answer)
-    started_shows settings started_as every known shows =
-        let none = all_heard true every in
-        grind (arith, after)
+  pub started_shows : (settings : Settings) (started_as : Contents)
+      → true ≡ all_noted gather.players (is_noted gather) → n.settings ≡ Some settings
+      → Represents limits me started_as (started (record m { noted = put m.noted from true }) settings)
+      → IsAfter limits me started_as (on_gathering limits m from) (λ answer. Heard.Started ≡ answer)
+  started_shows settings started_as every known shows = grind (arith, all_heard true every, after)
 
 -- where each player was given the settings: how player 0 comes to play, by those that it need not wait for
 module _ (limits : Limits) (settings : Settings) where
@@ -102,39 +92,19 @@ module _ (limits : Limits) (settings : Settings) where
   pub noted_next : (player : ℕ) (n : Contents) → 1 ≤ player → player < n.players → Represents limits 0 n (key (player - 1))
       → (new : Contents) (IsAnswer : Heard → Type 0) → Steps n new (λ limits me m. on_gathering limits m player) IsAnswer
       → Represents limits 0 new (key player)
-  noted_next player n some below r new IsAnswer steps =
-      let count : player < limits.players = grind arith in
-      let at : key (player - 1) ≡ record (fresh settings 0) { noted = heard_by (player - 1) } =
-      key_gathers limits settings (player - 1) (omega arith) in
-      let same : player - 1 + 1 ≡ player = omega arith in
-      along (sym (subst (λ (p : ℕ). (on_gathering limits (record (fresh settings 0) { noted = heard_by (player - 1) }) p).0 ≡ key p)
-      same (hears_next limits settings (player - 1) (omega arith))))
-      (steps.step limits 0 (record (fresh settings 0) { noted = heard_by (player - 1) }) (along (sym at) r)).node
+  noted_next player n some below r new IsAnswer steps = grind (arith, key_gathers, along, hears_next)
 
   pub plays_on : (player : ℕ) (n : Contents) → 1 ≤ player → (n.phase ≡ Gathering → n.players ≤ player)
       → Represents limits 0 n (key (player - 1)) → Represents limits 0 n (key player)
-  plays_on player n some off r =
-      elim (cases_Bool (nat_lt (player - 1 + 1) limits.players)) [
-        | inl below ↦
-            let at = key_gathers limits settings (player - 1) (ltb-true (player - 1 + 1) limits.players below) in
-            let past = off (r.stands.phase ∙ ap (λ (m : machine.Node). m.phase) at) in
-            let count = ltb-true (player - 1 + 1) limits.players below in
-            absurd (omega (arith, r.whose.players))
-        | inr last ↦ along (grind arith) r
-      ]
+  plays_on player n some off r = grind (arith, nat_lt, key_gathers, ltb-true, along)
 
   pub last_noted : (me : ℕ) → IsGame limits.players → (n new : Contents) → n.me ≡ 0
       → Represents limits me n (fresh settings me)
       → (Represents limits 0 n (key 0) → Represents limits 0 new (key 3))
       → Represents limits me new (started_node limits.players settings me)
-  last_noted me few n new first r on =
-      let mine : 0 ≡ me = sym first ∙ r.whose.number in
-      subst (λ (i : ℕ). Represents limits i new (started_node limits.players settings i)) mine
-      (along (grind arith) (on (along (sym (key_first limits settings few.0))
-      (subst (λ (i : ℕ). Represents limits i n (fresh settings i)) (sym mine) r))))
+  last_noted me few n new first r on = grind (arith, along, key_first)
 
   pub other_starts : (me : ℕ) (n new : Contents) → n.me ≢ 0 → Represents limits me n (fresh settings me)
       → Becomes n new (λ limits me m. started m settings)
       → Represents limits me new (started_node limits.players settings me)
-  other_starts me n new other r becomes =
-      along (grind arith) (becomes.step limits me (fresh settings me) r).node
+  other_starts me n new other r becomes = along (grind arith) (becomes.step limits me (fresh settings me) r).node

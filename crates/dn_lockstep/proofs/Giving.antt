@@ -1,32 +1,24 @@
 -- What a node sends and gives: by the machine, and by a lockstep that was asked for a packet.
-use Rattle.std.proofs.Common.{◌≡◌, ◌≢◌, ◌<◌, ◌≤◌, ℕ, Option, None, arith, ◌+◌, ◌-◌, min, Some, true, false, length, take, drop, refl, ap, Bool, ◌∙◌, inl, inr, List, ◌%◌}
-use Rattle.std.proofs.{lemmas.Bool.{le-ltb, cond-false}, lemmas.List.{length-drop, length-take}}
-use Rattle.std.proofs.lemmas.Option.{same_Some}
+use Rattle.std.proofs.Common.{◌≡◌, ◌≢◌, ◌<◌, ◌≤◌, ℕ, Option, None, arith, ◌+◌, ◌-◌, min, Some, true, false, length, take, drop, refl, ap, Bool, ◌∙◌, inl, inr, List, ◌%◌, nat_lt, ◌⊎◌, if◌then◌else◌, IfSome, option_map}
+use Rattle.std.proofs.lemmas.{Bool.{le-ltb, cond-false}, List.{length-drop, length-take}, Option.same_Some}
 use Rattle.std.proofs.Math.Seq.{take-append_seam}
-use Rattle.std.specs.{Prelude.{nat_lt, ◌⊎◌, if◌then◌else◌, IfSome}, Option.option_map}
 use Rattle.std.specs.List.{list_any}
 use Rattle.dn_machine.specs.{Limits.Limits, Flight.{Flight, Kind, packet_of_kind, Play, packet_of, Exit, request_byte}}
+use Rattle.dn_machine.specs.declared.answers.{Phase.{Phase, TheVariants.{Playing, Ended, Gathering}}, Cause.Cause}
 use Rattle.dn_machine.specs.Sending.{on_send, on_send_in, commands_flight, first_sent, last_sent, left_kind, set_up_flight, after_sent, request_to}
-use Rattle.dn_machine.specs.{declared.answers.Phase.Phase, declared.answers.Cause.Cause}
-use Rattle.dn_machine.specs.declared.answers.Phase.TheVariants.{Playing, Ended, Gathering}
-use Rattle.dn_machine.specs.Node as machine
 use Rattle.dn_lockstep.specs.{Contents.Contents, Represents.Represents, Sent.{sent_to, aim_of, after_giving, bytes_of, IsFair}}
-use Rattle.dn_lockstep.specs.declared.lockstep.aiming.Aim.{Aim}
-use Rattle.dn_lockstep.specs.Giving.{Gives, Reaches, packet_of_aim}
-use Rattle.dn_lockstep.specs.Tables.{is_stop}
-use Rattle.dn_lockstep.proofs.Shown.{below}
-use Rattle.dn_lockstep.proofs.After.{along}
-use Rattle.dn_setup.specs.Settings.{Settings, IsSettings}
-use Rattle.dn_setup.specs.Setup.{setup_packet}
-use Rattle.dn_packet.specs.Flags as flag
+use Rattle.dn_lockstep.specs.{declared.lockstep.aiming.Aim.Aim, Giving.{Gives, Reaches, packet_of_aim}, Tables.is_stop}
+use Rattle.dn_lockstep.proofs.{Shown.below, After.along}
+use Rattle.dn_setup.specs.{Settings.{Settings, IsSettings}, Setup.setup_packet}
 use Rattle.dn_packet.specs.{declared.packet.Packet.Packet, Text.{text, IsPacket}, Written.IsGiven}
 use Rattle.dn_ring.proofs.Slots.{since-ring_of}
+use Rattle.dn_machine.specs.Node as machine
+use Rattle.dn_packet.specs.Flags as flag
 
 -- What the machine's node sends, by the receiver's number and the phase, and its numbers.
 
 module _ (limits : Limits) (me : ℕ) (m : machine.Node) (to : ℕ) where
-  pub to_nobody : limits.players ≤ to → ◌≡◌ {A = machine.Node × Option Flight} (sent_to to limits me m)
-      (m, None)
+  pub to_nobody : limits.players ≤ to → ◌≡◌ {A = machine.Node × Option Flight} (sent_to to limits me m) (m, None)
   to_nobody past = cond-false (nat_lt to limits.players) _ _ (le-ltb to limits.players past)
 
   pub to_itself : me ≡ to → ◌≡◌ {A = machine.Node × Option Flight} (sent_to to limits me m) (m, None)
@@ -39,8 +31,7 @@ module _ (limits : Limits) (me : ℕ) (m : machine.Node) (to : ℕ) where
   to_peer below apart = grind arith
 
 -- the same of a node that represents it
-pub sends_in : (limits : Limits) (me : ℕ) (n : Contents) (m : machine.Node) (to : ℕ)
-    (phase : Phase)
+pub sends_in : (limits : Limits) (me : ℕ) (n : Contents) (m : machine.Node) (to : ℕ) (phase : Phase)
     → Represents limits me n m → to < n.players → to ≢ n.me → n.phase ≡ phase
     → ◌≡◌ {A = machine.Node × Option Flight} (sent_to to limits me m) (on_send_in limits me m to phase)
 sends_in limits me n m to phase r inside apart on = grind (arith, to_peer, below)
@@ -76,13 +67,11 @@ pub left_flags : (limits : Limits) (me : ℕ) (m : machine.Node) (to : ℕ) {sta
 left_flags limits me m to {start} {made} {count} starts makes low most counted = grind arith
 
 pub exit_given : (limits : Limits) (me : ℕ) (m : machine.Node) (to : ℕ) (cause : Cause)
-    (aim : Aim) → m.played ≡ true
-    → aim ≡ aim_of (commands_flight limits me m to (left_kind limits me m to) None)
+    (aim : Aim) → m.played ≡ true → aim ≡ aim_of (commands_flight limits me m to (left_kind limits me m to) None)
     → ◌≡◌ {A = Option Aim} (Some aim) (option_map aim_of (on_send_in limits me m to (Ended cause)).1)
 exit_given limits me m to cause aim has is = rw has (ap (λ (a : Aim). Some a) is)
 
-pub none_given : (limits : Limits) (me : ℕ) (m : machine.Node) (to : ℕ) (cause : Cause)
-    → m.played ≡ false
+pub none_given : (limits : Limits) (me : ℕ) (m : machine.Node) (to : ℕ) (cause : Cause) → m.played ≡ false
     → ◌≡◌ {A = Option Aim} None (option_map aim_of (on_send_in limits me m to (Ended cause)).1)
 none_given limits me m to cause never = rw never refl
 
@@ -91,24 +80,8 @@ pub own_aim : (limits : Limits) (me : ℕ) (m : machine.Node) (to : ℕ) (aim : 
     → (phase ≡ Playing) ⊎ ((cause : Cause) × (phase ≡ Ended cause))
     → ◌≡◌ {A = Option Aim} (Some aim) (option_map aim_of (on_send_in limits me m to phase).1)
     → (kind : Kind) × (request : Option ℕ) × (aim ≡ aim_of (commands_flight limits me m to kind request))
-own_aim limits me m to aim phase (inl plays) is = (
-  Play,
-  request_to m to,
-  same_Some _ _ (grind arith),
-)
-own_aim limits me m to aim phase (inr ended) is =
-    go m.played (is ∙ ap (λ (ph : Phase). option_map aim_of (on_send_in limits me m to ph).1) ended.1)
-  where
-    left_sent : Bool → machine.Node × Option Flight
-    left_sent played =
-        if played
-        then (after_sent limits me m to, Some (commands_flight limits me m to (left_kind limits me m to) None))
-        else (m, None)
-
-    go : (played : Bool) → ◌≡◌ {A = Option Aim} (Some aim) (option_map aim_of (left_sent played).1)
-        → (kind : Kind) × (request : Option ℕ) × (aim ≡ aim_of (commands_flight limits me m to kind request))
-    go true e = (left_kind limits me m to, None, same_Some _ _ e)
-    go false e = absurd (cc)
+own_aim limits me m to aim phase (inl plays) is = (Play, request_to m to, same_Some _ _ (grind arith))
+own_aim limits me m to aim phase (inr ended) is = grind (arith, option_map, same_Some)
 
 pub aim_of_set_up : (me to : ℕ) (settings : Option Settings) → settings ≢ None
     → ◌≡◌ {A = Option Aim} (Some (record { flags = 2; ask = None; start = 0; count = 0 }))
@@ -125,8 +98,7 @@ aimed limits me m to next aim e is = grind (arith, is, e)
 -- and where it is sent to a peer, by the phase
 pub aimed_in : {limits : Limits} {me : ℕ} {n : Contents} {m : machine.Node}
     (r : Represents limits me n m) {to : ℕ} {phase : Phase} {aim : Option Aim}
-    → to < n.players → to ≢ n.me → n.phase ≡ phase
-    → aim ≡ option_map aim_of (on_send_in limits me m to phase).1
+    → to < n.players → to ≢ n.me → n.phase ≡ phase → aim ≡ option_map aim_of (on_send_in limits me m to phase).1
     → aim ≡ option_map aim_of (sent_to to limits me m).1
 aimed_in {limits = limits} {me = me} {n = n} {m = m} r {to} {phase} {aim} below other at is =
     aimed limits me m to _ aim (sends_in limits me n m to phase r below other at) is
@@ -139,19 +111,16 @@ module _ (limits : Limits) (me : ℕ) (m : machine.Node) (to : ℕ) where
   none_sent = grind (arith, to_nobody, to_itself, to_peer)
 
 -- nothing comes of nothing
-pub no_flight : {A : Type 0} (view : Flight → A) (sent : Option Flight) → None ≡ option_map view sent
-    → sent ≡ None
+pub no_flight : {A : Type 0} (view : Flight → A) (sent : Option Flight) → None ≡ option_map view sent → sent ≡ None
 no_flight view sent e = grind arith
 
-pub some_flight : {A : Type 0} (view : Flight → A) (a : A) (sent : Option Flight)
-    → Some a ≡ option_map view sent
+pub some_flight : {A : Type 0} (view : Flight → A) (a : A) (sent : Option Flight) → Some a ≡ option_map view sent
     → (flight : Flight) × (sent ≡ Some flight) × (a ≡ view flight)
 some_flight view a None e = absurd (cc)
 some_flight view a (Some flight) e = (flight, refl, same_Some _ _ e)
 
 -- a node that gave a packet, and noted it
-pub given_shows : (limits : Limits) (me : ℕ) (n new : Contents) (m : machine.Node) (to : ℕ)
-    (packet : Packet)
+pub given_shows : (limits : Limits) (me : ℕ) (n new : Contents) (m : machine.Node) (to : ℕ) (packet : Packet)
     → Represents limits me n m → Gives n to → Some packet ≡ option_map packet_of (sent_to to limits me m).1
     → Represents limits me new (after_giving limits me m to m.phase)
     → Represents limits me new (sent_to to limits me m).0
@@ -207,8 +176,7 @@ module _ {limits : Limits} {me : ℕ} {n : Contents} {m : machine.Node}
   module _ {packet : Packet} (aim : Aim) (reach : Reaches n aim) (is : packet ≡ packet_of_aim n aim)
       (valid : IsPacket packet) (fine : list_any is_stop packet.cmds.items ≡ false) where
     own_as : (sent : Option Flight) → IfSome sent (IsOwn limits m me)
-        → ◌≡◌ {A = Option Aim} (Some aim) (option_map aim_of sent)
-        → IsGivenAs packet sent
+        → ◌≡◌ {A = Option Aim} (Some aim) (option_map aim_of sent) → IsGivenAs packet sent
     own_as sent own e = grind (arith, same_Some, whole_packet, below, since-ring_of)
 
     -- a node that gives its own commands

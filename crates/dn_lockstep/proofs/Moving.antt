@@ -1,22 +1,18 @@
 -- What a node represents after a tic.
-use Rattle.std.proofs.{Common.{◌≡◌, ◌≤◌, ℕ, true, length, Some, arith, ◌+◌, false, Option, ◌≢◌, ◌<◌, ◌%◌, ℤ, Bool, not, cond, List, [], ◌∷◌, ◌++◌, ap, sym, ◌∙◌, subst, inl, inr, None, refl}, lemmas.List.{take_all, length_push}}
-use Rattle.std.proofs.lemmas.List.Folds.{length-prefix_len}
-use Rattle.std.proofs.lemmas.Bool.{cases_Bool, le-ltb, lt-ltb}
-use Rattle.std.proofs.lemmas.List.Elements.{All-push}
-use Rattle.std.specs.Prelude.{Ok, All, IfSome}
+use Rattle.std.proofs.{Common.{◌≡◌, ◌≤◌, ℕ, true, length, Some, arith, ◌+◌, false, Option, ◌≢◌, ◌<◌, ◌%◌, ℤ, Bool, not, cond, List, [], ◌∷◌, ◌++◌, ap, sym, ◌∙◌, subst, inl, inr, None, refl, take_all, Ok, All, IfSome}, lemmas.List.length_push}
+use Rattle.std.proofs.lemmas.{List.{Folds.length-prefix_len, Elements.All-push}, Bool.{cases_Bool, le-ltb, lt-ltb}}
 use Rattle.dn_tic.specs.declared.command.Move.{Move}
 use Rattle.dn_setup.specs.Settings.{Settings, start_of}
-use Rattle.dn_demo.specs.{Layout.long_tics, Reading.{IsReadAs, written_demo}, Text.{demo_text, IsMove, IsRow, AreWritable}}
-use Rattle.dn_demo.specs.Recorded.{Recorded, AddsRow, Closes, is_closed}
+use Rattle.dn_demo.specs.{Layout.long_tics, Reading.{IsReadAs, written_demo}}
+use Rattle.dn_demo.specs.{Text.{demo_text, IsMove, IsRow, AreWritable}, Recorded.{Recorded, AddsRow, Closes, is_closed}}
 use Rattle.dn_demo.specs.declared.recorder.Stage.TheVariants.{Blank, Open, Closed}
 use Rattle.dn_demo.proofs.ReadBack.{long_read_back}
 use Rattle.dn_machine.specs.{Limits.Limits, Node.{is_ended, demo_rows, put, ends_of, own_mark, is_whole}}
-use Rattle.dn_machine.specs.Node as machine
-use Rattle.dn_machine.specs.Running.{is_over}
-use Rattle.dn_machine.specs.declared.answers.Phase.TheVariants.{Playing}
+use Rattle.dn_machine.specs.{Running.is_over, declared.answers.Phase.TheVariants.Playing}
 use Rattle.dn_machine.proofs.Demos.{front_stops, front_goes_on, front_short}
-use Rattle.dn_lockstep.specs.{Contents.Contents, Represents.{Represents, CanBeWritten, demo_of, is_demo_closed, marked_to}}
-use Rattle.dn_lockstep.specs.Rows.{seats_of}
+use Rattle.dn_lockstep.specs.{Contents.Contents, Rows.seats_of}
+use Rattle.dn_lockstep.specs.Represents.{Represents, CanBeWritten, demo_of, is_demo_closed, marked_to}
+use Rattle.dn_machine.specs.Node as machine
 
 -- The demo of a lockstep that has played.
 
@@ -25,8 +21,7 @@ pub all_recorded : (limits : Limits) (m : machine.Node)
     → machine.ran m ≤ length (demo_rows limits.players m) → demo_rows limits.players m ≡ m.rows
 all_recorded limits m all = grind (arith, length-prefix_len, take_all)
 
-module _ (limits : Limits) (m : machine.Node) (settings : Settings)
-    (known : m.settings ≡ Some settings) where
+module _ (limits : Limits) (m : machine.Node) (settings : Settings) (known : m.settings ≡ Some settings) where
   pub demo_is : (me : ℕ) → m.played ≡ true
       → demo_of limits me m ≡ demo_text long_tics (start_of settings) me (seats_of limits.players)
       (demo_rows limits.players m) (is_demo_closed limits m)
@@ -40,8 +35,7 @@ module _ (limits : Limits) (me : ℕ) (n : Contents) (m : machine.Node) (setting
   demo_ended ended = grind arith
 
   -- and is read back
-  pub read_back : is_ended m.phase ≡ true
-      → IsReadAs n.demo.bytes
+  pub read_back : is_ended m.phase ≡ true → IsReadAs n.demo.bytes
       (Ok (written_demo long_tics (start_of settings) me (seats_of limits.players) (demo_rows limits.players m)))
   unfolding CanBeWritten
   read_back ended =
@@ -59,8 +53,7 @@ pub marked_here : (tics : ℕ) (end : Option ℕ) → is_over end tics ≡ false
 marked_here tics end here = grind arith
 
 -- and of the next one too
-pub marked_next : (tics : ℕ) (end : Option ℕ) → is_over end tics ≡ false
-    → marked_to (tics + 1) end ≡ tics + 1
+pub marked_next : (tics : ℕ) (end : Option ℕ) → is_over end tics ≡ false → marked_to (tics + 1) end ≡ tics + 1
 marked_next tics end here = grind arith
 
 -- once the player is gone, of no further one
@@ -85,16 +78,15 @@ module _ (m : machine.Node) (row : List (Option Move)) (kept : ℕ → ℤ) wher
 
 -- what is written of a row: itself at the end of an open demo where it is whole, and else the marker, if it
 -- is not there
-pub record IsWritten (limits : Limits) (old new : Recorded) (row : List (Option Move)) : Type 0
-  where
-    pub begun : old.stage ≢ Blank
-    pub open_while : is_whole limits.players row ≡ true → old.stage ≡ Open
-    pub stage : new.stage ≡ cond (is_whole limits.players row) Open Closed
-    pub added : is_whole limits.players row ≡ true → AddsRow old.bytes new.bytes row
-    pub closes : is_whole limits.players row ≡ false → old.stage ≡ Open → Closes old.bytes new.bytes
-    pub stays : is_whole limits.players row ≡ false → old.stage ≡ Closed → new.bytes ≡ old.bytes
-    pub fits : is_whole limits.players row ≡ true → IsRow (seats_of limits.players) row
-    pub ranged : All (λ step. IfSome step IsMove) row
+pub record IsWritten (limits : Limits) (old new : Recorded) (row : List (Option Move)) : Type 0 where
+  pub begun : old.stage ≢ Blank
+  pub open_while : is_whole limits.players row ≡ true → old.stage ≡ Open
+  pub stage : new.stage ≡ cond (is_whole limits.players row) Open Closed
+  pub added : is_whole limits.players row ≡ true → AddsRow old.bytes new.bytes row
+  pub closes : is_whole limits.players row ≡ false → old.stage ≡ Open → Closes old.bytes new.bytes
+  pub stays : is_whole limits.players row ≡ false → old.stage ≡ Closed → new.bytes ≡ old.bytes
+  pub fits : is_whole limits.players row ≡ true → IsRow (seats_of limits.players) row
+  pub ranged : All (λ step. IfSome step IsMove) row
 
 module _ {limits : Limits} (m : machine.Node) {row : List (Option Move)} (kept : ℕ → ℤ)
     (playing : m.phase ≡ Playing) {old new : Recorded} (written : IsWritten limits old new row)
@@ -147,11 +139,9 @@ known_by (Some s) n = (s, refl)
 pub shows_moved : (limits : Limits) (me : ℕ) (n : Contents) (m : machine.Node)
     (row : List (Option Move)) (kept : ℕ → ℤ) (marks : ℕ → ℕ → ℤ) (demo : Recorded)
     → Represents limits me n m → n.phase ≡ Playing → n.played ≡ true → n.settings ≢ None
-    → ((p : ℕ) → p < n.players → is_over (ends_of m p) (machine.ran m) ≡ false
-    → marks p (n.ran % 12) ≡ kept p)
+    → ((p : ℕ) → p < n.players → is_over (ends_of m p) (machine.ran m) ≡ false → marks p (n.ran % 12) ≡ kept p)
     → ((p j : ℕ) → p < n.players → is_over (ends_of m p) (machine.ran m) ≡ true → marks p j ≡ n.marks p j)
-    → ((p j : ℕ) → j ≢ n.ran % 12 → marks p j ≡ n.marks p j)
-    → IsWritten limits n.demo demo row
+    → ((p j : ℕ) → j ≢ n.ran % 12 → marks p j ≡ n.marks p j) → IsWritten limits n.demo demo row
     → Represents limits me (record n { ran = n.ran + 1; marks = marks; demo = demo }) (moved m row kept)
 shows_moved limits me n m row kept marks demo r on has_played has_settings new absent others written =
     let playing : m.phase ≡ Playing = sym r.stands.phase ∙ on in

@@ -1,40 +1,29 @@
 -- The locksteps of one game stay those of one game, call by call.
-use Rattle.std.proofs.Common.{zero, suc, ◌-◌}
-use Rattle.std.proofs.lemmas.Bool.{cases_Bool, ltb-true, ltb-false}
-use Rattle.std.specs.Prelude.{map}
-use Rattle.dn_setup.specs.Settings.{IsSettings}
-use Rattle.dn_setup.specs.Settings.{bit}
+use Rattle.std.proofs.Common.{zero, suc, ◌-◌, map, ◌≡◌, ◌≢◌, ◌<◌, ◌≤◌, ◌+◌, ◌||◌, ℕ, ℤ, pos, Bool, true, false, List, [], ◌∷◌, ◌++◌, fold, Option, Some, None, refl, ap, sym, ◌∙◌, subst, arith, inl, inr, append_assoc, append-nil, ◌⊎◌, nat_lt, get_or, slice_get, IfSome, option_map}
+use Rattle.std.proofs.lemmas.{Bool.{cases_Bool, ltb-true, ltb-false, lt-ltb, cond_both}, Option.none-some}
+use Rattle.std.proofs.Math.Seq.{take-length}
+use Rattle.dn_setup.specs.Settings.{IsSettings, bit, Settings}
+use Rattle.dn_machine.specs.Game.{fresh, opening_game, own_marks, delivered, refused_at, refused_flight, refused}
+use Rattle.dn_machine.specs.{Game.{applied_if, applied, on_event}, Sending.{on_build, on_build_by, set_up_flight}}
 use Rattle.dn_machine.specs.Started.{started_node, set_up_of, answer_of, start_flights, start_events}
-use Rattle.dn_machine.proofs.Started.{comes_there}
-use Rattle.dn_lockstep.specs.Opening.{IsGame}
-use Rattle.dn_lockstep.specs.OneGame.{started_session}
-use Rattle.dn_lockstep.proofs.After.{along}
-use Rattle.std.proofs.Common.{◌≡◌, ◌≢◌, ◌<◌, ◌≤◌, ◌+◌, ◌||◌, ℕ, ℤ, pos, Bool, true, false, List, [], ◌∷◌, ◌++◌, fold, Option, Some, None, refl, ap, sym, ◌∙◌, subst, arith, inl, inr, append_assoc, append-nil}
-use Rattle.std.proofs.{lemmas.Bool.{lt-ltb, cond_both}, lemmas.Option.none-some, Math.Seq.take-length}
-use Rattle.std.specs.{Prelude.{◌⊎◌, nat_lt, get_or, slice_get, IfSome}, Option.option_map}
-use Rattle.dn_tic.specs.{declared.command.Move.Move, declared.command.TicCmd.TicCmd, declared.input.Input.Input}
-use Rattle.dn_setup.specs.Settings.{Settings}
-use Rattle.dn_machine.specs.{declared.answers.Heard.Heard, declared.answers.Made.Made, declared.answers.Ran.Ran}
-use Rattle.dn_machine.specs.declared.events.Event.{Event}
-use Rattle.dn_machine.specs.declared.events.Event.TheVariants.{Send, Deliver, Run, Quit}
-use Rattle.dn_machine.specs.{declared.events.Refusal.Refusal, Sending.{on_build, on_build_by, set_up_flight}, Flight.{Flight, is_near}}
-use Rattle.dn_machine.specs.Game.{fresh, opening_game, own_marks, delivered, refused_at, refused_flight, refused, applied_if, applied, on_event}
-use Rattle.dn_machine.specs.{Hearing.on_packet, Limits.{Limits, IsWindow}, Node.{put, is_ended}}
-use Rattle.dn_machine.specs.{Running.{is_over, on_run, on_quit}, Worlds.{Inputs, Rules, world_after}}
-use Rattle.dn_machine.specs.Relaying.{Own, Relay, CanRelay, packet_of_one, relayed, with_relayed}
-use Rattle.dn_machine.specs.{Nearness.is_start_near, Progress.build_of}
-use Rattle.dn_machine.specs.Node as machine
-use Rattle.dn_machine.proofs.Calls.{build_cases, send_cases, packet_cases, run_cases, quit_cases}
+use Rattle.dn_machine.specs.{Relaying.{Own, Relay, CanRelay, packet_of_one, relayed, with_relayed}, Hearing.on_packet}
+use Rattle.dn_machine.specs.declared.events.{Event.{TheVariants.{Send, Deliver, Run, Quit}, Event}, Refusal.Refusal}
+use Rattle.dn_machine.specs.{Worlds.{Inputs, Rules, world_after}, Running.{is_over, on_run, on_quit}, Progress.build_of}
+use Rattle.dn_machine.specs.{declared.answers.{Heard.Heard, Made.Made, Ran.Ran}, Limits.{Limits, IsWindow}}
+use Rattle.dn_machine.specs.{Nearness.is_start_near, Flight.{Flight, is_near}, Node.{put, is_ended}}
+use Rattle.dn_machine.proofs.{Started.comes_there, Calls.{build_cases, send_cases, packet_cases, run_cases, quit_cases}}
 use Rattle.dn_machine.proofs.{Invariant.IsKept, Put.{put_at, put_off, slice_get_push}, Asking.IsAsking}
 use Rattle.dn_machine.proofs.{Nearness.{asks, numbered}, GoingOn.accepted_build}
+use Rattle.dn_lockstep.specs.{Sent.{IsFair, sent_to, bytes_of}, OneGame.{beside, world_told, AreOneGame, IsGivenAs, Session, opening_session, with_lockstep, taken_on, after_build, given_on, after_packet, after_relays, told_on, after_run}}
+use Rattle.dn_lockstep.specs.{Opening.IsGame, OneGame.started_session, Contents.{Contents, end_in}, Hearing.HearsNear}
+use Rattle.dn_lockstep.specs.{Marking.{History, Marking, free}, Represents.Represents, Rows.is_gone, Steps.marks_in}
+use Rattle.dn_lockstep.specs.{Steps.{RunsBy, Steps, Tells, IsAfter}, Told.{made, command_told}, Phases.is_listening}
+use Rattle.dn_lockstep.proofs.{After.along, Shown.{got_is, tells_held}, Running.{kept_same, run_same, run_tells}}
+use Rattle.dn_tic.specs.declared.{command.{Move.Move, TicCmd.TicCmd}, input.Input.Input}
+use Rattle.dn_machine.specs.Node as machine
 use Rattle.dn_machine.proofs.Asking
 use Rattle.dn_machine.proofs.Promises
 use Rattle.dn_machine.specs.Drops as drops
-use Rattle.dn_lockstep.specs.{Contents.{Contents, end_in}, Hearing.HearsNear, Marking.{History, Marking, free}}
-use Rattle.dn_lockstep.specs.{Sent.{IsFair, sent_to, bytes_of}, OneGame.{beside, world_told, AreOneGame, IsGivenAs, Session, opening_session, with_lockstep, taken_on, after_build, given_on, after_packet, after_relays, told_on, after_run}}
-use Rattle.dn_lockstep.specs.{Represents.Represents, Rows.is_gone, Steps.{marks_in, RunsBy, Steps, Tells, IsAfter}}
-use Rattle.dn_lockstep.specs.{Told.{made, command_told}, Phases.is_listening}
-use Rattle.dn_lockstep.proofs.{Shown.{got_is, tells_held}, Running.{kept_same, run_same, run_tells}}
 
 abbrev pub Rows : Type 0
 Rows = List (List (Option Move))
@@ -162,8 +151,7 @@ module _ (marking : Marking) (limits : Limits) (settings : Settings) where
       (ap (λ (l : List Flight). slice_get l which) (append_assoc before (one ∷ []) (other ∷ [])) ∙ h)
 
   pub starts : (locksteps : ℕ → Contents) → IsWindow limits → IsGame limits.players → IsSettings settings
-      → ((p : ℕ) → p < limits.players
-      → Represents limits p (locksteps p) (started_node limits.players settings p))
+      → ((p : ℕ) → p < limits.players → Represents limits p (locksteps p) (started_node limits.players settings p))
       → AreOneGame marking limits settings (started_session limits.players settings locksteps)
   starts locksteps window few fits each =
       let there = comes_there rules settings few.0 in
@@ -173,15 +161,9 @@ module _ (marking : Marking) (limits : Limits) (settings : Settings) where
         last = there.0;
         runs = Asking.own_events rules (start_events (limits.players - 1)) (opening_game settings) there.0 there.1;
         nodes = λ p below. along (there.2.nodes p below) (each p below);
-        inputs = λ p. elim (cases_Bool (nat_lt p limits.players)) [
-          | inl below ↦ ap (λ (m : machine.Node). m.inputs) (there.2.nodes p (ltb-true p limits.players below))
-          | inr past ↦ ap (λ (m : machine.Node). m.inputs) (there.2.others p (ltb-false p limits.players past))
-        ];
+        inputs = grind (arith, nat_lt, ltb-true, ltb-false);
         flights = there.2.flights;
-        rows = λ p. elim (cases_Bool (nat_lt p limits.players)) [
-          | inl below ↦ ap (λ (m : machine.Node). m.rows) (there.2.nodes p (ltb-true p limits.players below))
-          | inr past ↦ ap (λ (m : machine.Node). m.rows) (there.2.others p (ltb-false p limits.players past))
-        ];
+        rows = grind (arith, nat_lt, ltb-true, ltb-false);
         fair = start_fair fits (limits.players - 1) (omega (arith, few));
         going = there.2.going;
       }
@@ -226,8 +208,7 @@ module _ (marking : Marking) (limits : Limits) (settings : Settings) where
           ≡ record { nodes = put node i m; stopped = game.last.stopped; flights = flights }
           → Represents limits i new m → ((p : ℕ) → (put node i m p).inputs ≡ inputs p) → flights ≡ more
           → ((which : ℕ) (flight : Flight) → slice_get more which ≡ Some flight → IsFair flight)
-          → ((p : ℕ) → (put node i m p).rows ≡ rows p)
-          → AreOneGame marking limits settings
+          → ((p : ℕ) → (put node i m p).rows ≡ rows p) → AreOneGame marking limits settings
           (record { inputs = inputs; given = more; told = rows; locksteps = put session.locksteps i new })
       changes event m flights more inputs rows new is shows takes same fair tells = record {
         window = game.window;
@@ -344,17 +325,7 @@ module _ (marking : Marking) (limits : Limits) (settings : Settings) where
           (λ flight. bytes ≡ option_map bytes_of flight)
           → (flight : Option Flight) × IsGivenAs (session.locksteps i) i to bytes flight
           × AreOneGame marking limits settings (after_packet session i flight new)
-      gives to new bytes fair steps =
-          let r = game.nodes i mine in
-          let after = steps.step limits i (node i) r in (
-            (sent_to to limits i (node i)).1,
-            record {
-              players = sent_between limits i (node i) to;
-              bytes = after.answer;
-              aim = λ numbers tells. tells limits i (node i) r;
-            },
-            gave to new after.node (fair limits i (node i) r),
-          )
+      gives to new bytes fair steps = grind (arith, sent_between, gave)
 
       -- a command that is told may be given to another
       pub relays : (player to tic : ℕ) (command : TicCmd) → player < limits.players → to < limits.players
@@ -387,9 +358,7 @@ module _ (marking : Marking) (limits : Limits) (settings : Settings) where
 
       -- its receiver's count is that of the node
       receiver_made : made (session.locksteps flight.to) ≡ machine.made flight.to (node flight.to)
-      receiver_made =
-          let to_it = (kept.from_inputs.pieces which flight given_there).receiver in
-          grind (arith, got_is)
+      receiver_made = grind (arith, (kept.from_inputs.pieces which flight given_there).receiver, got_is)
 
       asking : IsAsking rules settings game.last
       asking = Asking.always_asking_relayed rules settings game.window game.events game.last game.runs

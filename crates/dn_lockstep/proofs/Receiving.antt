@@ -1,27 +1,21 @@
 -- How a node hears a datagram: by what it tests first, by the packet's flags and by the node's phase; and
 -- that a fair flight that is near is read as it was sent.
-use Rattle.std.proofs.Common.{◌≡◌, ◌≢◌, ℕ, Bool, true, false, refl, ap, arith, ◌<◌, ◌≤◌, ◌⊎◌, List, sym, ◌+◌, ◌∙◌, inl, inr}
+use Rattle.std.proofs.Common.{◌≡◌, ◌≢◌, ℕ, Bool, true, false, refl, ap, arith, ◌<◌, ◌≤◌, ◌⊎◌, List, sym, ◌+◌, ◌∙◌, inl, inr, Result, Ok, if◌then◌else◌, Err, bit_and, not, ◌==◌}
 use Rattle.std.proofs.lemmas.Bool.{eq-eqb, ne_eqb, and_parts, lt-ltb, cases_Bool}
-use Rattle.std.specs.Prelude.{Result, Ok, if◌then◌else◌, Err, bit_and, not, ◌==◌}
 use Rattle.std.specs.List.{list_any}
-use Rattle.dn_packet.specs.{declared.packet.Packet.Packet, declared.packet.PacketFault.PacketFault}
-use Rattle.dn_packet.specs.Read.{IsReadAs}
-use Rattle.dn_packet.specs.Flags as flag
-use Rattle.dn_setup.specs.{Settings.Settings, declared.setup.SetupFault.SetupFault}
+use Rattle.dn_packet.specs.{declared.packet.{Packet.Packet, PacketFault.PacketFault}, Read.IsReadAs}
+use Rattle.dn_setup.specs.{Settings.Settings, declared.setup.SetupFault.{SetupFault, TheVariants.NotSetup}}
 use Rattle.dn_setup.specs.Setup.{IsSetupReadAs}
-use Rattle.dn_setup.specs.declared.setup.SetupFault.TheVariants.{NotSetup}
-use Rattle.dn_machine.specs.{declared.answers.Heard.Heard, declared.answers.Phase.Phase}
-use Rattle.dn_machine.specs.{declared.answers.Phase.TheVariants.{Listening, Gathering}, Limits.Limits}
+use Rattle.dn_machine.specs.declared.answers.{Heard.Heard, Phase.{Phase, TheVariants.{Listening, Gathering}}}
+use Rattle.dn_machine.specs.Limits.{Limits}
 use Rattle.dn_machine.specs.{Flight.{Play, Exit, Kind, SetUp, Flight, packet_of, commands_packet, is_close, is_request_close, is_near}, Node.made, Hearing.{on_gathering, on_packet, on_packet_in}}
-use Rattle.dn_machine.specs.Drops as drops
-use Rattle.dn_machine.specs.Node as machine
 use Rattle.dn_lockstep.specs.{Phases.{is_listening, hears_none}, Received.{has_flag, kind_in, start_in, request_in, heard_as, flight_at, other_flight, on_read, on_player, received, packet_drop, IsTold, on_set_up}}
 use Rattle.dn_lockstep.specs.{Contents.{Contents, whose}, Hearing.{HearsAny, HearsNear}, Represents.Represents}
-use Rattle.dn_lockstep.specs.Steps.{Simulates}
-use Rattle.dn_lockstep.specs.Sent.{IsFair, IsFairKind}
-use Rattle.dn_lockstep.specs.Tables.{is_stop}
-use Rattle.dn_lockstep.proofs.After.{after, steps}
-use Rattle.dn_lockstep.proofs.Shown.{made_is}
+use Rattle.dn_lockstep.specs.{Steps.Simulates, Sent.{IsFair, IsFairKind}, Tables.is_stop}
+use Rattle.dn_lockstep.proofs.{After.{after, steps}, Shown.made_is}
+use Rattle.dn_packet.specs.Flags as flag
+use Rattle.dn_machine.specs.Drops as drops
+use Rattle.dn_machine.specs.Node as machine
 
 -- a packet of commands is of one of two kinds
 pub kind_flagged : (packet : Packet) (set : Bool) → has_flag packet flag.exit ≡ set
@@ -49,8 +43,7 @@ module _ (limits : Limits) (me : ℕ) (m : machine.Node) (from : ℕ)
     read_strange other = grind (arith, listens, ne_eqb, read_other)
 
     pub read_killed : packet.player ≡ from → has_flag packet flag.kill ≡ true
-        → ◌≡◌ {A = machine.Node × Heard} (on_read limits me m from told (Ok packet))
-        (m, Heard.Dropped drops.kill)
+        → ◌≡◌ {A = machine.Node × Heard} (on_read limits me m from told (Ok packet)) (m, Heard.Dropped drops.kill)
     read_killed own kills = grind (arith, listens, eq-eqb, read_other)
 
     pub read_player : packet.player ≡ from → has_flag packet flag.kill ≡ false
@@ -73,13 +66,11 @@ module _ (limits : Limits) (me : ℕ) (m : machine.Node) (from : ℕ)
   received_strange on h = grind arith
 
   received_read : hears_none m.phase m.played ≡ false → from < limits.players → from ≢ me
-      → ◌≡◌ {A = machine.Node × Heard} (received limits me m from told read)
-      (on_read limits me m from told read)
+      → ◌≡◌ {A = machine.Node × Heard} (received limits me m from told read) (on_read limits me m from told read)
   received_read on below other = grind arith
 
 -- whether it hears anything, and who is no peer, by a node that represents it
-module _ {limits : Limits} {me : ℕ} {old : Contents} {m : machine.Node}
-    (r : Represents limits me old m) where
+module _ {limits : Limits} {me : ℕ} {old : Contents} {m : machine.Node} (r : Represents limits me old m) where
   same_none : hears_none m.phase m.played ≡ hears_none old.phase old.played
   same_none = sym (λ i. hears_none (r.stands.phase i) (r.stands.played i))
 
@@ -97,8 +88,7 @@ module _ (old : Contents) (from : ℕ) (bytes : List ℕ) where
 
     -- a peer's bytes are heard as what they are read as
     pub any_read : (new : Contents) (answer : Heard) (found : Result Packet PacketFault) → from < old.players
-        → from ≢ old.me
-        → ((read : Result Packet PacketFault) → IsReadAs bytes read → found ≡ read)
+        → from ≢ old.me → ((read : Result Packet PacketFault) → IsReadAs bytes read → found ≡ read)
         → whose new ≡ whose old
         → ((told : Result Settings SetupFault) → IsTold found told
         → Simulates old new (λ limits me m. on_read limits me m from told found) (λ heard. answer ≡ heard))
@@ -117,8 +107,7 @@ module _ (old : Contents) (from : ℕ) (bytes : List ℕ) where
 
 -- a flag that a packet of commands has, or has not, whether it asks or not
 flag_is : (flight : Flight) (flags flag : ℕ) (set : Bool) → not (bit_and (flags + 0) flag == 0) ≡ set
-    → not (bit_and (flags + 4) flag == 0) ≡ set
-    → has_flag (commands_packet flags flight) flag ≡ set
+    → not (bit_and (flags + 4) flag == 0) ≡ set → has_flag (commands_packet flags flight) flag ≡ set
 flag_is flight flags flag set plain asks = grind arith
 
 -- what a kind tells as a set-up packet
@@ -179,8 +168,7 @@ module _ (limits : Limits) (me : ℕ) (m : machine.Node) (flight : Flight) where
   near_read kind is fair near on =
       grind (arith, set_up_heard, play_heard, spelt_as, kind_flagged, flag_is, and_parts, exit_heard)
 
-  ended_heard : (phase : Phase) (played : Bool) (kind : Kind) → m.played ≡ played
-      → hears_none phase played ≡ true
+  ended_heard : (phase : Phase) (played : Bool) (kind : Kind) → m.played ≡ played → hears_none phase played ≡ true
       → ◌≡◌ {A = machine.Node × Heard} (m, Heard.Dropped drops.not_playing)
       (on_packet_in limits me m flight phase kind)
   ended_heard phase played kind at done = grind arith

@@ -1,26 +1,21 @@
 -- The seats of a row, the row of a tic, filled in seat by seat, and what a run looks up for it.
-use Rattle.std.proofs.Common.{◌≡◌, ◌<◌, ℕ, Bool, true, false, true≢false, not, cond, Option, None, is_some, List, map, ltb, leb, ap, sym, ◌∙◌, inl, inr, arith, ◌+◌, zero, suc, [], ◌∷◌, length, set, Some, refl, ◌≢◌, negsuc, ◌≤◌, ◌%◌, get_or, subst}
+use Rattle.std.proofs.Common.{◌≡◌, ◌<◌, ℕ, Bool, true, false, true≢false, not, cond, Option, None, is_some, List, map, ltb, leb, ap, sym, ◌∙◌, inl, inr, arith, ◌+◌, zero, suc, [], ◌∷◌, length, set, Some, refl, ◌≢◌, negsuc, ◌≤◌, ◌%◌, get_or, subst, is_none, option_map, if◌then◌else◌, slice_get, nat_lt}
 use Rattle.std.proofs.lemmas.Bool.{ltb-true, le-leb, and_from, cases_lt, not-true, and_parts, lt-ltb, le-ltb}
-use Rattle.std.proofs.lemmas.List.{get_or-set_same, get_or-set_other, set-get_or}
-use Rattle.std.proofs.lemmas.Option.{none-some}
-use Rattle.std.specs.{Option.{is_none, option_map}, Prelude.{if◌then◌else◌, slice_get, nat_lt}}
-use Rattle.dn_tic.specs.{declared.command.Move.Move, declared.command.TicCmd.TicCmd, Command.used}
+use Rattle.std.proofs.lemmas.{List.{get_or-set_same, get_or-set_other, set-get_or}, Option.none-some}
+use Rattle.dn_tic.specs.{declared.command.{Move.Move, TicCmd.TicCmd}, Command.used}
 use Rattle.dn_ring.specs.Ring.{Ring}
-use Rattle.dn_machine.specs.{Limits.{row_of, four, Limits}, Node.{lowest, lacks, is_whole, blank, held_at, own_mark}, declared.peer.Peer.Peer}
+use Rattle.dn_machine.specs.{Limits.{row_of, four, Limits}, Node.{lowest, lacks, is_whole, blank, held_at, own_mark}}
+use Rattle.dn_machine.specs.{declared.peer.Peer.Peer, Sparing.first_off_but}
 use Rattle.dn_machine.specs.Running.{is_over, is_absent, is_awaited, row_held, tic_limit, full_at}
-use Rattle.dn_machine.specs.Sparing.{first_off_but}
-use Rattle.dn_machine.specs.Node as machine
 use Rattle.dn_machine.proofs.{Demos.{none_is, seat_is}, Truth.lowest_none_each}
 use Rattle.dn_lockstep.specs.{Tables.{count_of, get, ring_at}, Rows.{is_gone, is_missing, seats_of, move_held, mark_in_command, mark_at, differs_but}}
-use Rattle.dn_lockstep.specs.{declared.lockstep.Lockstep.Lockstep, Contents.Contents}
-use Rattle.dn_lockstep.specs.Represents.{Represents}
-use Rattle.dn_lockstep.proofs.Lowest.{lowest_same, lowest_passes}
-use Rattle.dn_lockstep.proofs.{Shown.below, Keeping.{get_kept, get_some}}
+use Rattle.dn_lockstep.specs.{declared.lockstep.Lockstep.Lockstep, Contents.Contents, Represents.Represents}
+use Rattle.dn_lockstep.proofs.{Lowest.{lowest_same, lowest_passes}, Shown.below, Keeping.{get_kept, get_some}}
 use Rattle.dn_demo.specs.Text.{IsRecordable}
+use Rattle.dn_machine.specs.Node as machine
 
 -- a seat of a whole row
-pub whole_seat : (b : Bool) (a x : Option Move) → a ≡ cond b x None → (b ≡ true → is_none a ≡ false)
-    → is_some a ≡ b
+pub whole_seat : (b : Bool) (a x : Option Move) → a ≡ cond b x None → (b ≡ true → is_none a ≡ false) → is_some a ≡ b
 whole_seat b a x e h = grind arith
 
 pub whole_each : (players : ℕ) (row : List (Option Move)) → is_whole players row ≡ true → (p : ℕ)
@@ -36,8 +31,7 @@ seats_whole players f e = grind (arith, whole_each players (row_of players f) e,
 
 -- a row is whole where nobody is gone
 pub whole_gone : (row : List (Option Move)) (players : ℕ) (gone : ℕ → Bool)
-    → ((p : ℕ) → p < players → lacks row p ≡ gone p)
-    → is_whole players row ≡ not (is_some (lowest players gone))
+    → ((p : ℕ) → p < players → lacks row p ≡ gone p) → is_whole players row ≡ not (is_some (lowest players gone))
 whole_gone row players gone seat = grind (arith, lowest_same)
 
 -- where nobody's command is missing, that of a player who is not gone is there
@@ -79,15 +73,8 @@ module _ (rings : ℕ → Ring) (peers : ℕ → Peer) (tic : ℕ) where
   seat_free (suc (suc (suc (suc player)))) l = absurd (omega arith)
 
   -- and none, of a player who is gone
-  pub seat_none : (player : ℕ) → player < 4 → own player ≡ None
-      → seats_below player ≡ seats_below (player + 1)
+  pub seat_none : (player : ℕ) → player < 4 → own player ≡ None → seats_below player ≡ seats_below (player + 1)
   seat_none player l e = grind (arith, set-get_or, none_is, seat_more)
-
-  -- the move of a player who is not gone, and of one who is
-  pub own_here : (player : ℕ) (command : TicCmd) (step : Move) → is_gone peers tic player ≡ false
-      → get (rings player) tic ≡ Some command → step ≡ used command
-      → own player ≡ Some step
-  own_here player command step stays at is = rw stays (ap (option_map used) at ∙ ap Some (sym is))
 
   pub own_gone : (player : ℕ) → is_gone peers tic player ≡ true → own player ≡ None
   own_gone player gone = rw gone refl
@@ -101,8 +88,7 @@ module _ (rings : ℕ → Ring) (peers : ℕ → Peer) (tic : ℕ) where
 
 -- one seat more that is empty where its player is gone
 pub seats_more : (row : List (Option Move)) (gone : ℕ → Bool) (player : ℕ) → lacks row player ≡ gone player
-    → ((p : ℕ) → p < player → lacks row p ≡ gone p)
-    → (p : ℕ) → p < player + 1 → lacks row p ≡ gone p
+    → ((p : ℕ) → p < player → lacks row p ≡ gone p) → (p : ℕ) → p < player + 1 → lacks row p ≡ gone p
 seats_more row gone player this others p l = grind arith
 
 -- a seat that was filled in, and the others
@@ -129,8 +115,7 @@ mark_or_blank [] tic = refl
 mark_or_blank (c ∷ commands) zero = refl
 mark_or_blank (c ∷ commands) (suc tic) = mark_or_blank commands tic
 
-module _ {limits : Limits} {me : ℕ} {n : Contents} {m : machine.Node}
-    (r : Represents limits me n m) where
+module _ {limits : Limits} {me : ℕ} {n : Contents} {m : machine.Node} (r : Represents limits me n m) where
   inside : (p : ℕ) → p < limits.players → p < n.players
   inside p h = let P : ℕ → Type 0 = λ k. p < k in subst P (sym r.whose.players) h
 

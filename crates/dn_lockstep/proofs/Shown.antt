@@ -1,20 +1,17 @@
 -- What a lockstep tells of itself, by the node that it represents, and the counts of such a node.
-use Rattle.std.specs.Prelude.{if◌then◌else◌, ◌==◌}
-use Rattle.std.proofs.Common.{◌≡◌, ◌≢◌, ◌<◌, ◌≤◌, ◌+◌, ◌⊎◌, ℕ, ap, ◌∙◌, subst, arith, true, Some, None, refl}
-use Rattle.std.proofs.{lemmas.Bool.{eq-eqb, cond-true, and_parts, ltb-true}, lemmas.Option.cond_some}
+use Rattle.std.proofs.Common.{◌≡◌, ◌≢◌, ◌<◌, ◌≤◌, ◌+◌, ◌⊎◌, ℕ, ap, ◌∙◌, subst, arith, true, Some, None, refl, if◌then◌else◌, ◌==◌}
+use Rattle.std.proofs.lemmas.{Bool.{eq-eqb, cond-true, and_parts, ltb-true}, Option.cond_some}
 use Rattle.dn_tic.specs.declared.command.TicCmd.{TicCmd}
 use Rattle.dn_setup.specs.Settings.{Settings}
 use Rattle.dn_ring.specs.Ring.{Ring}
 use Rattle.dn_demo.specs.Text.{demo_text}
-use Rattle.dn_machine.specs.Limits.{Limits}
-use Rattle.dn_machine.specs.Node as machine
-use Rattle.dn_machine.specs.Node.{has_left, known_end}
+use Rattle.dn_machine.specs.{Limits.Limits, Node.{has_left, known_end}}
 use Rattle.dn_lockstep.specs.{Contents.{Contents, end_in}, Represents.Represents, Tables.count_of}
 use Rattle.dn_lockstep.specs.Told.{HasStarted, got, made, command_told}
 use Rattle.dn_lockstep.proofs.Keeping.{get_last}
+use Rattle.dn_machine.specs.Node as machine
 
-module _ (limits : Limits) (me : ℕ) (n : Contents) (m : machine.Node)
-    (r : Represents limits me n m) where
+module _ (limits : Limits) (me : ℕ) (n : Contents) (m : machine.Node) (r : Represents limits me n m) where
   pub below : (p : ℕ) → p < n.players → p < limits.players
   below p h = let P : ℕ → Type 0 = λ k. p < k in subst P r.whose.players h
 

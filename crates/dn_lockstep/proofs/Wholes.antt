@@ -1,23 +1,20 @@
 -- What a lockstep makes of the end of a player who is lost, and of the commands before it that are told
 -- whole.
-use Rattle.std.proofs.Common.{◌≡◌, ◌≢◌, ◌<◌, ◌≤◌, ◌+◌, ◌-◌, ℕ, false, List, ◌++◌, length, refl, ap, sym, ◌∙◌, arith, inl, inr, Option, Some, None, take, drop, zero, suc, Bool}
-use Rattle.std.proofs.lemmas.Bool.{cases_Bool, le-ltb, cases_eq}
-use Rattle.std.proofs.lemmas.List.{length-append, length-drop, length-take, drop-drop}
-use Rattle.std.proofs.Math.Seq.{drop-append_seam, take-length}
+use Rattle.std.proofs.Common.{◌≡◌, ◌≢◌, ◌<◌, ◌≤◌, ◌+◌, ◌-◌, ℕ, false, List, ◌++◌, length, refl, ap, sym, ◌∙◌, arith, inl, inr, Option, Some, None, take, drop, zero, suc, Bool, length-append, length-drop, length-take, drop-drop}
+use Rattle.std.proofs.{lemmas.Bool.{cases_Bool, le-ltb, cases_eq}, Math.Seq.{drop-append_seam, take-length}}
 use Rattle.std.specs.{Prelude.{if◌then◌else◌, ◌||◌, nat_lt}, List.list_any}
 use Rattle.dn_tic.specs.declared.command.TicCmd.{TicCmd}
 use Rattle.dn_ring.specs.Ring.{Ring}
-use Rattle.dn_machine.specs.{declared.peer.Peer.Peer, Limits.Limits, Node.{ends_of, is_ended, Node, put}, Running.is_over}
-use Rattle.dn_machine.specs.Settling.{settled_one, settled_to}
-use Rattle.dn_machine.specs.Node as machine
+use Rattle.dn_machine.specs.{declared.peer.Peer.Peer, Limits.Limits, Node.{ends_of, is_ended, Node, put}}
+use Rattle.dn_machine.specs.{Running.is_over, Settling.{settled_one, settled_to}}
 use Rattle.dn_machine.proofs.Put.{put_at, put_off, same_functions}
-use Rattle.dn_lockstep.specs.{declared.lockstep.settling.Settled.Settled, Contents.Contents}
-use Rattle.dn_lockstep.specs.{Phases.is_listening, Represents.{Represents, marked_to}}
-use Rattle.dn_lockstep.specs.Tables.{count_of, ring_of, is_stop}
-use Rattle.dn_lockstep.specs.Settling.{has_gap, is_no_peer, is_other_end, missing, on_settle, refused_end, settled_unless}
-use Rattle.dn_lockstep.specs.Steps.{IsAfter, Steps}
-use Rattle.dn_lockstep.proofs.{After.{after, steps}, Shown.{below, got_is}}
-use Rattle.dn_lockstep.proofs.{Gathering.{peer_below, same_test}, Changing.{shows_commands, shows_peer, AreKept}}
+use Rattle.dn_lockstep.specs.Settling.{has_gap, is_no_peer, is_other_end, missing, on_settle, refused_end}
+use Rattle.dn_lockstep.specs.{Settling.settled_unless, declared.lockstep.settling.Settled.Settled, Phases.is_listening}
+use Rattle.dn_lockstep.specs.{Tables.{count_of, ring_of, is_stop}, Represents.{Represents, marked_to}}
+use Rattle.dn_lockstep.specs.{Steps.{IsAfter, Steps}, Contents.Contents}
+use Rattle.dn_lockstep.proofs.{After.{after, steps}, Shown.{below, got_is}, Gathering.{peer_below, same_test}}
+use Rattle.dn_lockstep.proofs.Changing.{shows_commands, shows_peer, AreKept}
+use Rattle.dn_machine.specs.Node as machine
 
 -- without a gap they are as many as are missing
 pub missing_length : (got end first : ℕ) (commands : List TicCmd) → has_gap got end first commands ≡ false
@@ -126,8 +123,7 @@ module _ {limits : Limits} {me : ℕ} {n : Contents} {m : machine.Node} (r : Rep
         after (settled_one m player all) (Settled.Taken (end - machine.got m player))
         (ap (λ (o : Option Settled). settled_unless o m player end first commands) (same_refusal ∙ fine))
         (shows_commands (shows_peer r player peers marked known others) player n.hold m.inputs
-        all rings r.commands.hold rest apart)
-        (ap (λ (k : ℕ). Settled.Taken (end - k)) had)
+        all rings r.commands.hold rest apart) (ap (λ (k : ℕ). Settled.Taken (end - k)) had)
 
 -- what is refused changes nothing
 pub refuses : (n : Contents) (player end first : ℕ) (commands : List TicCmd) (reason : Settled)
@@ -141,8 +137,7 @@ module _ (limits : Limits) (me player first : ℕ) (m : machine.Node) (commands 
     (whole : m.held player ++ rest ≡ decided)
     (there : missing (machine.got m player) (length decided) first commands ≡ rest)
     (near : has_gap (machine.got m player) (length decided) first commands ≡ false)
-    (peer : is_no_peer limits.players me player ≡ false)
-    (within : (is_listening m.phase || is_ended m.phase) ≡ false)
+    (peer : is_no_peer limits.players me player ≡ false) (within : (is_listening m.phase || is_ended m.phase) ≡ false)
     (room : length decided ≤ machine.ran m + limits.places) (safe : list_any is_stop rest ≡ false)
     (same : is_other_end (machine.ran m) (ends_of m player) (length decided) ≡ false) where
   pub settles : on_settle limits me m player (length decided) first commands

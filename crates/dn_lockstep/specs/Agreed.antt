@@ -55,9 +55,11 @@ used_in n tic player = command_in long_tics n.demo.bytes (n.players * tic + play
 
 -- the commands of a demo: what stands behind the header in whole commands, so without the marker of a closed
 -- one
+abbrev pub recorded_in : List ℕ → List ℕ
+recorded_in demo = take (command_size long_tics * commands_in long_tics demo) (drop header_size demo)
+
 abbrev pub recorded : Contents → List ℕ
-recorded n = take (command_size long_tics * commands_in long_tics n.demo.bytes)
-    (drop header_size n.demo.bytes)
+recorded n = recorded_in n.demo.bytes
 
 -- the header of a demo without its ninth byte, the view
 abbrev pub header_but_view : Contents → List ℕ

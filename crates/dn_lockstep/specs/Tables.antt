@@ -39,8 +39,11 @@ abbrev pub HasNoStop : Ring → Type 0
 HasNoStop ring = All (λ command. command.forward ≢ negsuc 127) ring.last
 
 -- of several peers the one of this number
+abbrev pub peer_of : List Peer → ℕ → Peer
+peer_of peers player = slice_index_or peers player no_peer
+
 abbrev pub peer_at : Peers → ℕ → Peer
-peer_at peers player = slice_index_or peers.peers player no_peer
+peer_at peers player = peer_of peers.peers player
 
 -- a player's mark in a slot
 abbrev pub slot : List Slots → ℕ → ℕ → ℤ

@@ -1,9 +1,8 @@
 -- A node that wants a resend lacks a command that was made, so the tic that it asks for lies at most the
 -- window before the packet's first; and so it is where commands are relayed.
-use Rattle.std.proofs.{Common.{ℤ, ◌≡◌, ℕ, ◌+◌, ◌<◌, ◌≤◌, ◌≢◌, ◌++◌, [], ◌∷◌, true, ◌&&◌, List, length, refl, sym, subst, arith, Option, Some, None, inl, inr, ltb, get_or}, lemmas.Bool.{ltb-true, and_parts}, lemmas.List.length-append}
+use Rattle.std.proofs.{Common.{ℤ, ◌≡◌, ℕ, ◌+◌, ◌<◌, ◌≤◌, ◌≢◌, ◌++◌, [], ◌∷◌, true, ◌&&◌, List, refl, sym, subst, arith, Option, Some, None, inl, inr, ltb, get_or, ltb-true, length-append, slice_get, map}, lemmas.Bool.and_parts}
 use Rattle.std.proofs.lemmas.Option.{none-some}
-use Rattle.std.specs.Prelude.{slice_get, map}
-use Rattle.dn_tic.specs.{declared.command.TicCmd.TicCmd, declared.input.Input.Input, declared.input.Input.TheVariants.{Pressed, Given}}
+use Rattle.dn_tic.specs.declared.{input.Input.{Input, TheVariants.{Pressed, Given}}}
 use Rattle.dn_setup.specs.Settings.{Settings}
 use Rattle.dn_machine.specs.{declared.answers.Heard.Heard, declared.events.Event.Event, declared.events.Event.TheVariants.{Build, Send, Deliver, Run, Quit, Stop, Give}, Limits.{Limits, IsWindow}, Worlds.{Rules, command}, Flight.{Play, Flight, end_of}}
 use Rattle.dn_machine.specs.{Node.{Node, put, got, made, has_left, held_at, blank}, Sending.{on_build, first_sent, set_up_flight, left_kind, commands_flight, request_to, on_send}, Hearing.on_packet, Running.{on_run, on_quit}}
@@ -24,10 +23,6 @@ abbrev pub AskClose : ℕ → List Flight → Type 0
 AskClose ahead flights =
     (which : ℕ) (flight : Flight) (tic : ℕ) → slice_get flights which ≡ Some flight → flight.request ≡ Some tic
     → flight.start ≤ tic + ahead
-
-still_has : (held : ℕ → List TicCmd) (i p : ℕ) (new : List TicCmd) → p ≢ i
-    → length (held p) ≤ length (put held i new p)
-still_has held i p new apart = grind arith
 
 module _ (players : ℕ) (nodes : ℕ → Node) (lacks : Lacks players nodes) (i : ℕ) (mine : i < players) where
   -- what a node in its place has to keep to
@@ -115,8 +110,7 @@ module _ {S : Type 0} (rules : Rules S) (settings : Settings) (game : Game)
   abbrev After : Game → Type 0
   After next = Lacks rules.players next.nodes × AskClose rules.ahead next.flights
 
-  delivers : (which : ℕ) (o : Option Flight) → slice_get game.flights which ≡ o
-      → After (delivered rules game o).0
+  delivers : (which : ℕ) (o : Option Flight) → slice_get game.flights which ≡ o → After (delivered rules game o).0
   delivers which None h = (asking.lacks, asking.close)
   delivers which (Some flight) h =
       let piece = asking.kept.from_inputs.pieces which flight h in (
@@ -226,8 +220,7 @@ module _ {S : Type 0} (rules : Rules S) (settings : Settings) where
       → LeadsRelayed rules game events mid → NextRelayed rules mid event last
       → LeadsRelayed rules game (events ++ event ∷ []) last
   goes_on [] event game mid last same next = grind arith
-  goes_on (e ∷ events) event game mid last way next =
-      (way.0, way.1, goes_on events event way.0 mid last way.2 next)
+  goes_on (e ∷ events) event game mid last way next = (way.0, way.1, goes_on events event way.0 mid last way.2 next)
 
 -- and a game of own events is one with packets given on
 pub own_events : {S : Type 0} (rules : Rules S) (events : List Event) (game last : Game) → Leads rules game events last

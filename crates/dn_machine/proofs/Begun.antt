@@ -1,15 +1,14 @@
 -- A game before or after its start, of which some may have left: what the events of a round leave of it,
 -- unless every demo is as good as full.
-use Rattle.std.proofs.{Common.{◌≡◌, ℕ, ◌<◌, ◌≤◌, Bool, true, false, true≢false, sym, ◌∙◌, ap, arith, inl, inr, rules, length}, lemmas.Bool.cases_eq}
-use Rattle.std.specs.Prelude.{◌⊎◌}
+use Rattle.std.proofs.{Common.{◌≡◌, ℕ, ◌<◌, ◌≤◌, Bool, true, false, true≢false, sym, ◌∙◌, ap, arith, inl, inr, rules, length, ◌⊎◌}, lemmas.Bool.cases_eq}
 use Rattle.dn_setup.specs.Settings.{Settings}
 use Rattle.dn_machine.specs.{declared.answers.Phase.TheVariants.Playing, declared.events.Event.Event, declared.events.Event.TheVariants.{Run, Send, Deliver}, Worlds.Rules, Node.{Node, ran, is_ended, has_left}}
 use Rattle.dn_machine.specs.{Game.{Game, on_own_run, with_node}, Progress.{after, exchange, turn, build_of}}
-use Rattle.dn_machine.proofs.OwnKeeps
 use Rattle.dn_machine.proofs.{GoingOn.{accepted, IsLive, IsFar, StayRan, IsOn, far_after, exchange_far, full_far, ran_after, live_after, stays_in, IsRoomy, roomy_after, row_fits}, EachEvent.{each_of, is_of_round, after_build, after_send, after_deliver}}
 use Rattle.dn_machine.proofs.{Openings.{Stands, Gathers, Listens, Plays, HasGone, IsOpen, applied_open}, Calls.{Change, build_change, send_change, hear_change}}
-use Rattle.dn_machine.proofs.GoingOn
 use Rattle.dn_tic.specs.declared.input.Input.{Input}
+use Rattle.dn_machine.proofs.OwnKeeps
+use Rattle.dn_machine.proofs.GoingOn
 
 -- What builds, sends and packets leave of a node: it does not end, and whom it has noted stays noted.
 -- a node that ends no more, and forgets nobody
@@ -27,8 +26,7 @@ gentle_on a b c first next = grind arith
 
 change_gentle : (players from : ℕ) (spoke : Type 0) (old new : Node) → Change players from spoke ⊥ old new
     → Gentle old new
-change_gentle players from spoke old new change =
-    grind arith
+change_gentle players from spoke old new change = grind arith
 
 -- all nodes of a game so
 abbrev pub AllGentle : Game → Game → Type 0
@@ -84,8 +82,7 @@ module _ {S : Type 0} (rules : Rules S) (settings : Settings) (cap : ℕ) (stay 
   exchange_begun i j game begun = search (rules, gentle_begun, deliver_gentle, send_gentle)
 
   -- where the key player has played, each plays or has left
-  pub all_play : (game : Game) → IsBegun game → (game.nodes 0).played ≡ true
-      → IsOn rules settings cap stay tic game
+  pub all_play : (game : Game) → IsBegun game → (game.nodes 0).played ≡ true → IsOn rules settings cap stay tic game
   all_play game begun key = record {
     live = begun.live;
     plays = λ q l s. playing q l s (played q l) (begun.is_open.stands q);

@@ -1,17 +1,15 @@
 -- The cases of each call on a node: what is so of each node that a call may leave, with its answer where
 -- that tells, is so of the one that it leaves.
-use Rattle.std.proofs.{Common.{◌≡◌, ℕ, ◌+◌, ◌-◌, ◌<◌, ◌≤◌, ◌≢◌, true, false, [], ◌∷◌, ◌++◌, drop, arith, Option, Some, None, ℤ, zero, suc, Bool, length, get_or, refl, inl, inr}, lemmas.Bool.{leb-true, leb-false, ltb-true, ltb-false, cases_Bool, and_from}}
-use Rattle.std.proofs.lemmas.List.Folds.{list_all_at}
-use Rattle.std.proofs.lemmas.List.FromFn.{length-range_with_len, get_or-range_with_len}
-use Rattle.std.specs.Prelude.{◌⊎◌}
+use Rattle.std.proofs.{Common.{◌≡◌, ℕ, ◌+◌, ◌-◌, ◌<◌, ◌≤◌, ◌≢◌, true, false, [], ◌∷◌, ◌++◌, drop, arith, Option, Some, None, ℤ, zero, suc, Bool, length, get_or, refl, inl, inr, leb-true, leb-false, ltb-true, ltb-false, ◌⊎◌}, lemmas.Bool.{cases_Bool, and_from}}
+use Rattle.std.proofs.lemmas.List.{Folds.list_all_at, FromFn.{length-range_with_len, get_or-range_with_len}}
 use Rattle.std.specs.List.{list_all, range_with_len}
 use Rattle.dn_setup.specs.{Settings.Settings, Gathered.all_noted}
 use Rattle.dn_tic.specs.declared.input.Input.{Input}
 use Rattle.dn_machine.specs.Making.{Making, vanilla_making}
+use Rattle.dn_machine.specs.Running.{marks_kept, full_at, is_awaited, first_off, row_held, on_run, on_quit}
 use Rattle.dn_machine.specs.{declared.answers.Cause.Cause, declared.answers.Phase.TheVariants.{Listening, Gathering, Playing, Ended}, declared.answers.Heard.Heard, declared.peer.Peer.Peer, Limits.Limits}
 use Rattle.dn_machine.specs.{Flight.{Kind, SetUp, Play, Flight, is_exit, end_of}, Node.{Node, put, with_peer, ends_of, got, made, ran, held_at, own_mark, lowest, is_ended, has_left}, Sending.{on_build, on_build_by, set_up_flight, left_kind, commands_flight, request_to, after_sent, on_send}}
 use Rattle.dn_machine.specs.Hearing.{started, after_request, after_flight, is_strange_end, left_or, on_commands, on_packet}
-use Rattle.dn_machine.specs.Running.{marks_kept, full_at, is_awaited, first_off, row_held, on_run, on_quit}
 use Rattle.dn_machine.specs.Drops as drops
 
 -- the packet is not set-up
@@ -125,10 +123,7 @@ module _ (limits : Limits) (me : ℕ) (node : Node) where
           → P (started node settings, Heard.Started)
       pub completes : IsWord flight.kind → node.phase ≡ Gathering
           → all_noted limits.players (put node.noted flight.from true) ≡ true
-          → P (
-            record node { phase = Playing; played = true; noted = put node.noted flight.from true },
-            Heard.Started,
-          )
+          → P (record node { phase = Playing; played = true; noted = put node.noted flight.from true }, Heard.Started)
       pub notes : IsWord flight.kind → node.phase ≡ Gathering
           → all_noted limits.players (put node.noted flight.from true) ≡ false
           → P (record node { noted = put node.noted flight.from true }, Heard.Noted)

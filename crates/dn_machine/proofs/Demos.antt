@@ -1,8 +1,7 @@
 -- Rows that lack a player, and the rows before the first of them.
-use Rattle.std.proofs.{Common.{◌≡◌, ℕ, zero, suc, ◌<◌, ◌≤◌, Bool, true, false, cond, List, [], ◌∷◌, ◌++◌, length, get_or, refl, sym, ◌∙◌, ap, subst, arith, Option, None, ltb, leb}, lemmas.Bool.lt-ltb, lemmas.List.get_or-take}
+use Rattle.std.proofs.Common.{◌≡◌, ℕ, zero, suc, ◌<◌, ◌≤◌, Bool, true, false, cond, List, [], ◌∷◌, ◌++◌, length, get_or, refl, sym, ◌∙◌, ap, subst, arith, Option, None, ltb, leb, lt-ltb, get_or-take, take_while, option_map, is_none}
 use Rattle.std.proofs.{lemmas.List.Sums.{take_while-cons, prefix_len_passes, prefix_len-le-length}, lemmas.List.Folds.length-prefix_len}
-use Rattle.std.specs.{List.take_while, Option.{option_map, is_none}}
-use Rattle.dn_tic.specs.{declared.command.TicCmd.TicCmd, Command.used, declared.input.Input.Input}
+use Rattle.dn_tic.specs.{declared.{command.TicCmd.TicCmd, input.Input.Input}, Command.used}
 use Rattle.dn_machine.specs.{Worlds.if_made, Node.{Node, lacks, is_whole}, Running.{is_absent, row_held}, Promise.IsPrefixOf, Limits.{Limits, row_of}}
 use Rattle.dn_machine.proofs.Truth.{lowest_none, lowest_none_each}
 
@@ -33,8 +32,7 @@ pub front_stops : {A : Type 0} (test : A → Bool) (xs : List A) (y : A) → tes
     → take_while test (xs ++ y ∷ []) ≡ take_while test xs
 front_stops test [] y h = take_while-cons test y [] ∙ ap (λ (b : Bool). cond b (y ∷ take_while test []) []) h
 front_stops {A} test (x ∷ xs) y h = take_while-cons test x (xs ++ y ∷ [])
-    ∙ (ap (λ (zs : List A). cond (test x) (x ∷ zs) []) (front_stops test xs y h)
-    ∙ sym (take_while-cons test x xs))
+    ∙ (ap (λ (zs : List A). cond (test x) (x ∷ zs) []) (front_stops test xs y h) ∙ sym (take_while-cons test x xs))
 
 -- where all pass, and one more does
 all_pass : {A : Type 0} (b : Bool) (x : A) (front xs : List A) → cond b (x ∷ front) [] ≡ x ∷ xs

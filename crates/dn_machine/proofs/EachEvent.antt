@@ -138,8 +138,7 @@ module _ {S : Type 0} (rules : Rules S) where
   pub led_none : (game : Game) → IsLed game game
   led_none game = ([], refl, refl)
 
-  pub led_event : (event : Event) (game : Game) → is_of_round event ≡ true
-      → IsLed game (after rules event game)
+  pub led_event : (event : Event) (game : Game) → is_of_round event ≡ true → IsLed game (after rules event game)
   led_event event game is = (
     event ∷ [],
     (after rules event game, inl refl, refl),

@@ -1,6 +1,5 @@
 -- What an exchange leaves in a game that goes on, where each node plays or has left.
-use Rattle.std.proofs.{Common.{◌≡◌, ℕ, ◌+◌, ◌≤◌, ◌<◌, ◌≢◌, Bool, true, false, true≢false, length, refl, sym, ◌∙◌, ap, subst, arith, inl, inr}, lemmas.Bool.{cases_eq, cases_lt, cases_Bool}}
-use Rattle.std.specs.Prelude.{◌⊎◌}
+use Rattle.std.proofs.{Common.{◌≡◌, ℕ, ◌+◌, ◌≤◌, ◌<◌, ◌≢◌, Bool, true, false, true≢false, length, refl, sym, ◌∙◌, ap, subst, arith, inl, inr, ◌⊎◌}, lemmas.Bool.{cases_eq, cases_lt, cases_Bool}}
 use Rattle.dn_setup.specs.Settings.{Settings}
 use Rattle.dn_machine.specs.{Limits.Limits, Worlds.Rules, Flight.{Flight, is_near}, Node.{Node, put, ends_of, got, made, is_ended, has_left}, Game.{Game, with_node}, Progress.{exchange}}
 use Rattle.dn_machine.proofs.{Invariant.{HoldsAll, history_of}, Put.{put_at, put_off}, GoingOn.{IsOn, ran_after, live_after, on_alike, roomy_after, Gives}, Stages.{side, goal_of, Holds, Taken, Moves, Asked}}
@@ -34,11 +33,10 @@ module _ {S : Type 0} (rules : Rules S) (settings : Settings) (cap : ℕ) (stay 
   there = in_play rules settings cap stay tic game on
 
   holds_all : (q p : ℕ) → HoldsAll (history_of game) q p → Holds tic (side (game.nodes q) p)
-  holds_all q p h =
-      elim (cases_lt tic (got (game.nodes q) p)) [
-        | inl l ↦ inl l
-        | inr m ↦ inr (h.0, h.1, omega arith)
-      ]
+  holds_all q p h = elim (cases_lt tic (got (game.nodes q) p)) [
+    | inl l ↦ inl l
+    | inr m ↦ inr (h.0, h.1, omega arith)
+  ]
 
   -- a node has made at most the window more than another, or needs no more of it
   close_or : (q p : ℕ) → q < rules.players → p < rules.players
@@ -125,8 +123,7 @@ module _ {S : Type 0} (rules : Rules S) (settings : Settings) (cap : ℕ) (stay 
           (λ u. grind arith))
       | inr far ↦
           subst (λ (g : Game). IsExchanged rules.limits stay tic goal flight.start i j game g)
-          (sym (grind (arith, GoingOn.not_exchanged)))
-          (placed J refl refl (λ s n. refl)
+          (sym (grind (arith, GoingOn.not_exchanged))) (placed J refl refl (λ s n. refl)
           (λ u. elim (near_j u) [ inl near ↦ absurd (true≢false (sym near ∙ far)) | inr holds ↦ inl holds ])
           (λ u. elim (near_i u) [ inl near ↦ absurd (true≢false (sym near ∙ far)) | inr holds ↦ inl holds ]))
     ]

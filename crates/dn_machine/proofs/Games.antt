@@ -1,19 +1,17 @@
 -- The game as it opens has what every event keeps, each event keeps it, and so does every list of events.
-use Rattle.std.proofs.Common.{◌≡◌, ℕ, ◌-◌, ◌<◌, ◌≤◌, ◌≢◌, false, List, ◌++◌, length, get_or, drop, refl, sym, ◌∙◌, ap, arith, Bool, true, cond, Option, Some, not, ◌&&◌, [], ◌∷◌, None, ltb}
+use Rattle.std.proofs.Common.{◌≡◌, ℕ, ◌-◌, ◌<◌, ◌≤◌, ◌≢◌, false, List, ◌++◌, length, get_or, drop, refl, sym, ◌∙◌, ap, arith, Bool, true, cond, Option, Some, not, ◌&&◌, [], ◌∷◌, None, ltb, ◌⊎◌, slice_get}
 use Rattle.std.proofs.lemmas.List.{length-append, length-drop, get_or_append_left, get_or-append_right, get_or-drop}
 use Rattle.std.proofs.lemmas.Bool.{ltb-true, and_parts}
-use Rattle.std.specs.Prelude.{◌⊎◌, slice_get}
-use Rattle.dn_tic.specs.declared.command.TicCmd.{TicCmd}
-use Rattle.dn_tic.specs.declared.input.Input.TheVariants.{Pressed}
+use Rattle.dn_tic.specs.declared.{command.TicCmd.TicCmd, input.Input.TheVariants.Pressed}
 use Rattle.dn_setup.specs.Settings.{Settings}
 use Rattle.dn_machine.specs.Making.{Making}
 use Rattle.dn_machine.specs.{Worlds.{Inputs, RulesBy, command}, Flight.{Flight, end_of, Kind, Exit, is_exit}, Node.{put, blank, Node, with_peer, ends_of, got, made, is_ended, has_left}, declared.answers.Phase.Phase}
 use Rattle.dn_machine.specs.{declared.answers.Phase.TheVariants.{Listening, Gathering, Playing}, declared.answers.Heard.Heard, declared.peer.Peer.Peer, Game.{Game, with_node, opening_game, refused_at, refused, delivered, on_event, applied_if, applied}, Runs.{Next, Leads, Runs}, Hearing.on_packet, Running.is_over}
 use Rattle.dn_machine.specs.{declared.events.Event.Event, declared.events.Event.TheVariants.{Build, Send, Deliver, Run, Quit, Stop, Give}, declared.events.Refusal.Refusal, Limits.IsWindow}
 use Rattle.dn_machine.proofs.{Invariant.{History, IsPiece, ComesFromInputs, IsKept, history_of}, Put.{put_off, view_put, view_kept}, Peers.asked_end, Calls.{packet_cases, sender_after}}
+use Rattle.dn_machine.proofs.{OwnKeeps.{builds, runs, quits, sends}, EachEvent.leads_keep}
 use Rattle.dn_machine.proofs.Invariant
 use Rattle.dn_machine.proofs.Placing
-use Rattle.dn_machine.proofs.{OwnKeeps.{builds, runs, quits, sends}, EachEvent.leads_keep}
 
 -- A packet that comes to a node keeps it.
 
@@ -49,8 +47,7 @@ module _ {making : Making} {S : Type 0} (rules : RulesBy making S) (settings : S
     counts q p = grind (arith, length_new)
 
     pub lists_taken : ComesFromInputs rules settings (record history { held = held_after }) flights
-    lists_taken =
-        grind (arith, counts, Invariant.close, true_new)
+    lists_taken = grind (arith, counts, Invariant.close, true_new)
 
 -- a packet that tells an end is an EXIT packet
 pub exit_is : (kind : Kind) → is_exit kind ≡ true → kind ≡ Exit
@@ -78,13 +75,12 @@ module _ {making : Making} {S : Type 0} (rules : RulesBy making S) (settings : S
 
     -- the history after the end was told
     abbrev history_with_end : Bool → History
-    history_with_end exit =
-        record (history_of game) {
-          ends = cond exit
-              (put (λ q. ends_of (game.nodes q)) i
-              (put (ends_of (game.nodes i)) flight.from (Some (end_of flight))))
-              (λ q. ends_of (game.nodes q));
-        }
+    history_with_end exit = record (history_of game) {
+      ends = cond exit
+          (put (λ q. ends_of (game.nodes q)) i
+          (put (ends_of (game.nodes i)) flight.from (Some (end_of flight))))
+          (λ q. ends_of (game.nodes q));
+    }
 
     end_from_inputs : (exit : Bool) → (exit ≡ true → flight.kind ≡ Exit)
         → ComesFromInputs rules settings (history_with_end exit) game.flights
@@ -98,14 +94,12 @@ module _ {making : Making} {S : Type 0} (rules : RulesBy making S) (settings : S
 
     module _ (exit : Bool) (leaving : exit ≡ true → flight.kind ≡ Exit) (peer : Peer)
         (told : peer.end ≡ end_after exit) (low : peer.resend ≤ made i (game.nodes i)) where
-      still : (tic : ℕ) → is_over (ends_of (game.nodes i) flight.from) tic ≡ true
-          → is_over peer.end tic ≡ true
+      still : (tic : ℕ) → is_over (ends_of (game.nodes i) flight.from) tic ≡ true → is_over peer.end tic ≡ true
       still tic h = ap (λ (o : Option ℕ). is_over o tic) told ∙ end_over exit leaving tic h
 
       ends_view : (held : ℕ → List TicCmd)
           → ◌≡◌ {A = ℕ → ℕ → Option ℕ}
-          (λ q. ends_of (put game.nodes i (after_peer peer held) q))
-          (history_with_end exit).ends
+          (λ q. ends_of (put game.nodes i (after_peer peer held) q)) (history_with_end exit).ends
       ends_view held = grind arith
 
       -- no commands are taken
@@ -115,12 +109,8 @@ module _ {making : Making} {S : Type 0} (rules : RulesBy making S) (settings : S
           (with_peer (game.nodes i) flight.from peer) game.stopped game.flights (history_with_end exit)
           (view_kept (λ (n : Node). n.inputs) game.nodes i _ refl)
           (view_kept (λ (n : Node). n.held) game.nodes i _ refl)
-          (view_kept (λ (n : Node). n.rows) game.nodes i _ refl)
-          (ends_view (game.nodes i).held)
-          (grind arith)
-          (end_from_inputs exit leaving)
-          (search (rules, Placing.peer_sound, still))
-          (grind arith)
+          (view_kept (λ (n : Node). n.rows) game.nodes i _ refl) (ends_view (game.nodes i).held) (grind arith)
+          (end_from_inputs exit leaving) (search (rules, Placing.peer_sound, still)) (grind arith)
 
       abbrev taken : ℕ → List TicCmd
       taken = put (game.nodes i).held flight.from
@@ -137,12 +127,10 @@ module _ {making : Making} {S : Type 0} (rules : RulesBy making S) (settings : S
           Placing.placed rules settings game kept i mine next game.stopped game.flights _
           (view_kept (λ (n : Node). n.inputs) game.nodes i next refl)
           (view_put (λ (n : Node). n.held) game.nodes i next)
-          (view_kept (λ (n : Node). n.rows) game.nodes i next refl)
-          (ends_view taken)
+          (view_kept (λ (n : Node). n.rows) game.nodes i next refl) (ends_view taken)
           (Placing.left_placed rules settings game kept i mine next (λ h. h))
           (lists_taken rules settings (history_with_end exit) game.flights (end_from_inputs exit leaving) i mine
-          (Placing.playing_stays rules settings game kept i mine plays) flight piece apart first
-          (omega arith))
+          (Placing.playing_stays rules settings game kept i mine plays) flight piece apart first (omega arith))
           (search (rules, Placing.peer_sound, still, put_off))
           (Placing.marks_kept rules settings game kept i mine next refl refl)
 
@@ -165,8 +153,7 @@ module _ {making : Making} {S : Type 0} (rules : RulesBy making S) (settings : S
               (λ h. ap (λ (z : Settings). Some z) (piece.set_up s k)) (λ h. refl)
               (λ h. ap (λ (z : Settings). Some z) (piece.set_up s k)) (λ p w z h. cc));
           completes = λ word e all. Placing.quiet rules settings game kept i mine _ refl refl refl refl refl
-              (in_play_left Gathering e refl)
-              (grind arith);
+              (in_play_left Gathering e refl) (grind arith);
           notes = search (rules, Placing.quiet);
           commands = search (rules, hears_only, takes_too);
           requests = λ ended. hears_only false (λ e. absurd (cc)) _
@@ -230,5 +217,4 @@ module _ {making : Making} {S : Type 0} (rules : RulesBy making S) (settings : S
   pub goes_on : (events : List Event) (event : Event) (game mid last : Game) → Leads rules game events mid
       → Next rules mid event last → Leads rules game (events ++ event ∷ []) last
   goes_on [] event game mid last same next = grind arith
-  goes_on (e ∷ events) event game mid last way next =
-      (way.0, way.1, goes_on events event way.0 mid last way.2 next)
+  goes_on (e ∷ events) event game mid last way next = (way.0, way.1, goes_on events event way.0 mid last way.2 next)

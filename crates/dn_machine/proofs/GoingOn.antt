@@ -1,16 +1,13 @@
 -- A game that goes on, where those that stay play and the others have left: what each event leaves of it,
 -- and an exchange.
-use Rattle.std.specs.Prelude.{slice_get, ◌⊎◌}
-use Rattle.std.proofs.{Common.{◌≡◌, ℕ, ◌+◌, ◌<◌, ◌≤◌, Bool, true, false, ◌∙◌, ap, arith, suc, true≢false, refl, sym, inl, inr, ◌-◌, ◌≢◌, min, cond, List, [], ◌∷◌, ◌++◌, length, Option, Some, None, rules}, lemmas.Bool.{and_right, cond_both}}
-use Rattle.std.proofs.lemmas.List.{length-drop, length-take}
+use Rattle.std.proofs.{Common.{◌≡◌, ℕ, ◌+◌, ◌<◌, ◌≤◌, Bool, true, false, ◌∙◌, ap, arith, suc, true≢false, refl, sym, inl, inr, ◌-◌, ◌≢◌, min, cond, List, [], ◌∷◌, ◌++◌, length, Option, Some, None, rules, slice_get, ◌⊎◌, length-drop, length-take}, lemmas.Bool.{and_right, cond_both}}
 use Rattle.std.proofs.lemmas.Option.{slice_get_past}
 use Rattle.dn_tic.specs.declared.input.Input.{Input}
 use Rattle.dn_setup.specs.Settings.{Settings}
 use Rattle.dn_machine.specs.{declared.answers.Phase.TheVariants.Playing, declared.events.Event.Event, Worlds.Rules, Node.{Node, ran, is_ended, has_left, made, is_whole, put, got}, Game.{Game, applied, with_node, refused_at, refused, on_event, applied_if}, Progress.{IsSwift, after, exchange, build_of}}
 use Rattle.dn_machine.specs.{Sending.{on_build, on_build_by, on_send, lag, left_kind, commands_flight, after_sent}, Hearing.on_packet, Running.{tic_limit, full_at, is_absent, row_held, on_run, on_quit}}
-use Rattle.dn_machine.specs.{declared.events.Event.TheVariants.Deliver, declared.events.Refusal.Refusal}
+use Rattle.dn_machine.specs.{declared.events.{Event.TheVariants.Deliver, Refusal.Refusal}, Promise.Fits}
 use Rattle.dn_machine.specs.Flight.{Kind, Play, Exit, Flight, is_exit, end_of, is_near}
-use Rattle.dn_machine.specs.Promise.{Fits}
 use Rattle.dn_machine.proofs.{Invariant.{IsKept, history_of}, EachEvent.{is_of_round, after_event}, Games.applied_keeps, Growth.{IsPatient, applied_grows}, Demos.whole_has}
 use Rattle.dn_machine.proofs.Invariant
 use Rattle.dn_machine.proofs.OwnKeeps
@@ -59,8 +56,7 @@ pub data IsRoomy {S : Type 0} (rules : Rules S) (cap tic : ℕ) (game : Game) : 
       → cap ≤ tic_limit → IsRoomy rules cap tic game
 
 module _ {S : Type 0} (rules : Rules S) (cap tic : ℕ) (game : Game) where
-  pub roomy_after : (event : Event) → IsRoomy rules cap tic game
-      → IsRoomy rules cap tic (after rules event game)
+  pub roomy_after : (event : Event) → IsRoomy rules cap tic game → IsRoomy rules cap tic (after rules event game)
   roomy_after event (InDemos a b) = InDemos a b
   roomy_after event (Without p l left few b) =
       let same = made_after rules p event game left in
@@ -72,8 +68,7 @@ module _ {S : Type 0} (rules : Rules S) (cap tic : ℕ) (game : Game) where
 
   -- the row that a node runs next, with all that it needs, has room
   pub row_fits : (settings : Settings) (kept : IsKept rules settings game) (r : ℕ) (mine : r < rules.players)
-      → tic ≤ ran (game.nodes r)
-      → OwnKeeps.IsThere rules settings game kept r mine → IsRoomy rules cap tic game
+      → tic ≤ ran (game.nodes r) → OwnKeeps.IsThere rules settings game kept r mine → IsRoomy rules cap tic game
       → cap ≤ full_at rules.limits (row_held rules.limits (game.nodes r))
   row_fits settings kept r mine far there (InDemos a b) = grind arith
   row_fits settings kept r mine far there (Without p l left few b) =
@@ -147,8 +142,7 @@ exchange_far rules cap stay i j game far = search (rules, far_after)
 
 -- a game goes on where each node looks as it did
 pub on_alike : {S : Type 0} (rules : Rules S) (settings : Settings) (cap : ℕ) (stay : ℕ → Bool) (tic : ℕ)
-    (old new : Game) → IsOn rules settings cap stay tic old
-    → ((q : ℕ) → (new.nodes q).phase ≡ (old.nodes q).phase)
+    (old new : Game) → IsOn rules settings cap stay tic old → ((q : ℕ) → (new.nodes q).phase ≡ (old.nodes q).phase)
     → ((q : ℕ) → (new.nodes q).played ≡ (old.nodes q).played) → IsLive rules settings new
     → StayRan rules stay new tic → IsRoomy rules cap tic new → IsOn rules settings cap stay tic new
 on_alike rules settings cap stay tic old new on phases played live ran room = record {
@@ -210,8 +204,7 @@ Gives rules game i j gone asks_it =
           (cond asks_it (Some (got (game.nodes i) j)) None)),
     )
 
-module _ {S : Type 0} (rules : Rules S) (settings : Settings) (game : Game)
-    (live : IsLive rules settings game) where
+module _ {S : Type 0} (rules : Rules S) (settings : Settings) (game : Game) (live : IsLive rules settings game) where
   pub stays : (q : ℕ) → is_ended (game.nodes q).phase ≡ false → has_left (game.nodes q) ≡ false
   stays = Promises.stays_in rules settings game live.kept
 
@@ -224,8 +217,7 @@ module _ {S : Type 0} (rules : Rules S) (settings : Settings) (game : Game)
   -- to itself a node gives nothing
   pub exchange_own : (i : ℕ) → i < rules.players → exchange rules i game i ≡ game
   unfolding exchange on_send
-  exchange_own i l =
-      grind (arith, accepted, nothing, slice_get_past)
+  exchange_own i l = grind (arith, accepted, nothing, slice_get_past)
 
   -- a node gives another a packet
   module _ (i j : ℕ) (mine : i < rules.players) (its : j < rules.players) (apart : i ≢ j) (sender : Node)
@@ -259,11 +251,7 @@ module _ {S : Type 0} (rules : Rules S) (settings : Settings) (game : Game)
     sender = after_sent rules.limits i (game.nodes i) j
 
     abbrev pub sent : Game
-    sent = record {
-      nodes = put game.nodes i sender;
-      stopped = game.stopped;
-      flights = game.flights ++ packet ∷ [];
-    }
+    sent = record { nodes = put game.nodes i sender; stopped = game.stopped; flights = game.flights ++ packet ∷ [] }
 
     abbrev pub receiver : Node
     receiver = (on_packet rules.limits j (game.nodes j) packet).0
@@ -310,7 +298,6 @@ module _ {S : Type 0} (rules : Rules S) (settings : Settings) (game : Game)
   unfolding on_send
   sends_playing i j apart plays = grind arith
 
-  pub sends_left : (i j : ℕ) → i ≢ j → has_left (game.nodes i) ≡ true
-      → Gives rules game i j true false
+  pub sends_left : (i j : ℕ) → i ≢ j → has_left (game.nodes i) ≡ true → Gives rules game i j true false
   unfolding on_send
   sends_left i j apart left = grind arith

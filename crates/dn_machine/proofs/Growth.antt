@@ -1,7 +1,7 @@
 -- What no event takes back: the rows that a node ran, that it has played, and that it pauses for no more than
 -- ten packets.
-use Rattle.std.proofs.{Common.{◌≡◌, ℕ, ◌≤◌, true, List, length, arith, ◌++◌, false, true≢false, refl, sym, ◌∙◌}, lemmas.List.{length_push, length-append}, lemmas.Bool.and_parts}
-use Rattle.dn_tic.specs.{declared.input.Input.Input, declared.command.TicCmd.TicCmd}
+use Rattle.std.proofs.{Common.{◌≡◌, ℕ, ◌≤◌, true, List, length, arith, ◌++◌, false, true≢false, refl, sym, ◌∙◌, length-append}, lemmas.{List.length_push, Bool.and_parts}}
+use Rattle.dn_tic.specs.declared.{input.Input.Input, command.TicCmd.TicCmd}
 use Rattle.dn_setup.specs.Settings.{Settings}
 use Rattle.dn_machine.specs.{declared.answers.Heard.Heard, declared.events.Event.Event, Worlds.Rules, Node.{Node, ran, put, got, is_ended, has_left}, Sending.{on_build_by, on_send}, Hearing.on_packet, Running.{on_run, on_quit}}
 use Rattle.dn_machine.specs.{Game.{Game, opening_game, applied}, Runs.{Runs, Leads}, Progress.{after, in_order, exchange, turn, good_round, good_rounds, build_of}}
@@ -37,8 +37,7 @@ always_patient rules settings events game run = leads_keep rules IsPatient
 
 -- rows stay over an exchange, a turn and rounds
 module _ {S : Type 0} (rules : Rules S) where
-  pub exchange_ran : (q n i : ℕ) (g : Game) (j : ℕ) → n ≤ ran (g.nodes q)
-      → n ≤ ran ((exchange rules i g j).nodes q)
+  pub exchange_ran : (q n i : ℕ) (g : Game) (j : ℕ) → n ≤ ran (g.nodes q) → n ≤ ran ((exchange rules i g j).nodes q)
   unfolding exchange
   exchange_ran q n i g j l = grind (arith, applied_grows)
 

@@ -1,13 +1,12 @@
 -- What every event keeps.
-use Rattle.std.specs.Prelude.{ℕ, ◌+◌, ◌<◌, ◌≤◌, Bool, true, List, [], ◌≡◌, ◌≢◌, ◌⊎◌, ℤ, get_or, length, Option, Some, slice_get}
-use Rattle.std.proofs.Common.{false, ◌∷◌, ◌++◌, sym, subst, arith, inl, inr}
-use Rattle.dn_tic.specs.{declared.command.TicCmd.TicCmd, declared.command.Move.Move}
+use Rattle.std.proofs.Common.{false, ◌∷◌, ◌++◌, sym, subst, arith, inl, inr, ℕ, ◌+◌, ◌<◌, ◌≤◌, Bool, true, List, [], ◌≡◌, ◌≢◌, ◌⊎◌, ℤ, get_or, length, Option, Some, slice_get}
+use Rattle.dn_tic.specs.declared.command.{TicCmd.TicCmd, Move.Move}
 use Rattle.dn_setup.specs.Settings.{Settings}
 use Rattle.dn_machine.specs.Making.{Making}
 use Rattle.dn_machine.specs.{declared.answers.Phase.TheVariants.{Playing, Gathering, Ended}, Limits.IsWindow, Worlds.{Inputs, RulesBy, command, row, world}, Flight.{SetUp, Exit, Flight, end_of}}
 use Rattle.dn_machine.specs.{Node.{Node, ends_of, blank, has_left, is_whole, demo_rows, put}, Running.{tic_limit, row_held}, Game.Game}
-use Rattle.dn_machine.specs.declared.answers.Cause.TheVariants as Cause
 use Rattle.dn_machine.proofs.Put.{put_two_off, slice_get_push, longer, pushed}
+use Rattle.dn_machine.specs.declared.answers.Cause.TheVariants as Cause
 
 -- A packet that was sent is a piece of what its sender has.
 pub record IsPiece {making : Making} {S : Type 0} (rules : RulesBy making S) (settings : Settings) (inputs : Inputs) (left : ℕ → Bool)
@@ -82,14 +81,13 @@ pub record IsSound {making : Making} {S : Type 0} (rules : RulesBy making S) (se
   pub most : rules.capacity ≤ tic_limit → length node.rows ≤ tic_limit
 
 abbrev pub history_of : Game → History
-history_of game =
-    record {
-      inputs = λ q. (game.nodes q).inputs;
-      held = λ q. (game.nodes q).held;
-      rows = λ q. (game.nodes q).rows;
-      ends = λ q. ends_of (game.nodes q);
-      left = λ q. has_left (game.nodes q);
-    }
+history_of game = record {
+  inputs = λ q. (game.nodes q).inputs;
+  held = λ q. (game.nodes q).held;
+  rows = λ q. (game.nodes q).rows;
+  ends = λ q. ends_of (game.nodes q);
+  left = λ q. has_left (game.nodes q);
+}
 
 -- the marks that a node kept are those of the worlds of the players' inputs, for each player who has made a
 -- command for the tic
@@ -163,8 +161,7 @@ module _ {making : Making} {S : Type 0} (rules : RulesBy making S) (settings : S
   module _ (me : ℕ) (mine : me < rules.players) (there : (p : ℕ) → p < rules.players
       → (length (history.rows me) < length (history.held me p))
       ⊎ ((end : ℕ) × (history.ends me p ≡ Some end) × (end ≤ length (history.rows me))))
-      (new : List (Option Move)) (true_row : new ≡ row rules settings history.inputs (length (history.rows me)))
-    where
-      pub runs : ComesFromInputs rules settings
-          (record history { rows = put history.rows me (history.rows me ++ new ∷ []) }) flights
-      runs = grind (arith, longer, pushed)
+      (new : List (Option Move)) (true_row : new ≡ row rules settings history.inputs (length (history.rows me))) where
+    pub runs : ComesFromInputs rules settings
+        (record history { rows = put history.rows me (history.rows me ++ new ∷ []) }) flights
+    runs = grind (arith, longer, pushed)

@@ -1,7 +1,6 @@
 -- Which packets are near: those whose first tic lies near enough a count, and those that were given soon before
 -- they come.
-use Rattle.std.proofs.{Common.{◌≡◌, ℕ, ◌+◌, ◌<◌, ◌≤◌, ◌≢◌, true, false, List, sym, ap, arith, Option, Some, None, inl, inr}, lemmas.Option.{none-some, same_Some}}
-use Rattle.std.specs.Prelude.{slice_get, ◌⊎◌}
+use Rattle.std.proofs.{Common.{◌≡◌, ℕ, ◌+◌, ◌<◌, ◌≤◌, ◌≢◌, true, false, List, sym, ap, arith, Option, Some, None, inl, inr, slice_get, ◌⊎◌}, lemmas.Option.{none-some, same_Some}}
 use Rattle.dn_setup.specs.Settings.{Settings}
 use Rattle.dn_machine.specs.{declared.answers.Phase.TheVariants.{Gathering, Playing}, declared.events.Event.Event, Limits.{Limits, IsWindow}, Worlds.Rules, Flight.{SetUp, Flight, distance, is_near}}
 use Rattle.dn_machine.specs.{Node.{Node, got, made, ran, is_ended, has_left}, Sending.{first_sent, set_up_flight, on_send}, Running.is_absent, Game.Game, Runs.Runs, Progress.IsSwift, Nearness.{is_start_near, IsYoung, IsSoon, IsOnItsWay}}
@@ -54,15 +53,13 @@ module _ {S : Type 0} (rules : Rules S) (settings : Settings) (window : IsWindow
   close : (game : Game) → IsKept rules settings game → (p q : ℕ) → p < rules.players → q < rules.players
       → has_left (game.nodes q) ≡ false → made p (game.nodes p) ≤ made q (game.nodes q) + rules.ahead
   close game kept p q l m stays =
-      let c = Invariant.close rules settings (history_of game) game.flights kept.from_inputs p q l m stays in
-      omega arith
+      omega (arith, Invariant.close rules settings (history_of game) game.flights kept.from_inputs p q l m stays)
 
   -- where a packet of commands starts
   starts : (game : Game) → IsKept rules settings game → (me to : ℕ) → me < rules.players → (flight : Flight)
       → IsGiven rules.limits me to (game.nodes me) flight
       → (flight.start ≤ made me (game.nodes me)) × (made me (game.nodes me) ≤ flight.start + rules.places)
-  starts game kept me to l flight given =
-      grind arith
+  starts game kept me to l flight given = grind arith
 
   -- a new packet lies no further away than what is kept and the window
   pub new : (events : List Event) (game : Game) → Runs rules settings events game → (me to : ℕ)
@@ -108,8 +105,7 @@ module _ {S : Type 0} (rules : Rules S) (settings : Settings) (window : IsWindow
 
     -- given after both were in play, to one who has built few since, by one who has not built many
     pub late : has_left (before.nodes me) ≡ false → has_left (before.nodes to) ≡ false
-        → IsSoon rules.limits before given me
-        → IsYoung rules.limits before now to
+        → IsSoon rules.limits before given me → IsYoung rules.limits before now to
         → is_near (made to (now.nodes to)) flight ≡ true
     late on stays few young = elim (given_is rules.limits me to (given.nodes me) flight way.gives) [
       | inl set_up ↦ near_set_up (made to (now.nodes to)) flight set_up.0 set_up.1

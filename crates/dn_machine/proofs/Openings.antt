@@ -1,12 +1,11 @@
 -- How a game opens: the key player gathers and the others listen, and the key player starts once all others
 -- have played.
-use Rattle.std.proofs.{Common.{◌≡◌, ℕ, ◌<◌, ◌≤◌, ◌≢◌, true, false, List, length, refl, sym, ◌∙◌, arith, Option, Some, None}, lemmas.Bool.ltb-true}
-use Rattle.std.specs.Prelude.{slice_get}
+use Rattle.std.proofs.Common.{◌≡◌, ℕ, ◌<◌, ◌≤◌, ◌≢◌, true, false, List, length, refl, sym, ◌∙◌, arith, Option, Some, None, ltb-true, slice_get}
 use Rattle.dn_setup.specs.{Settings.Settings, Gathered.all_noted}
 use Rattle.dn_machine.specs.{declared.answers.Phase.TheVariants.{Listening, Gathering, Playing}, declared.events.Event.Event, declared.events.Event.TheVariants.{Build, Send, Deliver, Run, Quit, Stop, Give}, Limits.IsWindow, Worlds.Rules}
 use Rattle.dn_machine.specs.{Flight.Flight, Node.{Node, is_ended}, Sending.on_send, Game.{Game, opening_game, with_node, posted, refused, delivered, on_event, applied, own_marks, built}, Runs.Runs}
 use Rattle.dn_machine.proofs.{Invariant.IsKept, Put.{put_at, put_off, slice_get_push}, Games.{opens, applied_keeps}, EachEvent.leads_keep, Calls.{IsWord, each_noted, Change, Same, Starts, Notes, Completes, Gone, build_change, send_change, run_change, quit_change, hear_change}}
-use Rattle.dn_tic.specs.{declared.input.Input.Input, declared.input.Input.TheVariants.{Pressed, Given}}
+use Rattle.dn_tic.specs.declared.input.Input.{Input, TheVariants.{Pressed, Given}}
 
 -- Where a node stands: the key player gathers, any other listens, until it plays; and then it may end.
 pub data Stands (i : ℕ) (node : Node) : Type 0 where
@@ -55,8 +54,7 @@ module _ {S : Type 0} (rules : Rules S) (game : Game) (is_open : IsOpen rules ga
     key_all old here (Gone x a b c) never marks was h = was (sym b ∙ h)
     key_all old here (Notes w g a b c d r) never marks was h = was (sym b ∙ h)
     key_all old here (Completes w g a b c d) never marks was h =
-        λ p l m. key_noted old here (Completes w g a b c d) marks p
-        (each_noted rules.players here.noted p d l m)
+        λ p l m. key_noted old here (Completes w g a b c d) marks p (each_noted rules.players here.noted p d l m)
 
     key_missing : (old : Node) (here : Node) → Change rules.players from spoke ends old here
         → (old.phase ≡ Gathering → all_noted rules.players old.noted ≡ false) → here.phase ≡ Gathering

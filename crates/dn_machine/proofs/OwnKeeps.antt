@@ -1,20 +1,16 @@
 -- What a node does by itself, a build, a run, a quit and a send, keeps what every event keeps.
-use Rattle.std.proofs.{Common.{◌≡◌, ℕ, ◌+◌, ◌<◌, ◌≤◌, true, false, List, [], ◌∷◌, ◌++◌, length, take, ◌∙◌, arith, inl, inr, refl, ◌≢◌, not, cond, sym, ap, Option, Some, None, ltb, leb, ℤ, subst}, lemmas.Bool.{cases_eq, cases_Bool, cond-true, leb-false, lt-ltb, and_from, and_cases}, lemmas.List.{length_push, take-append-le, take_all, length-drop, length-take, get_or-drop, get_or-take}}
+use Rattle.std.proofs.{Common.{◌≡◌, ℕ, ◌+◌, ◌<◌, ◌≤◌, true, false, List, [], ◌∷◌, ◌++◌, length, take, ◌∙◌, arith, inl, inr, refl, ◌≢◌, not, cond, sym, ap, Option, Some, None, ltb, leb, ℤ, subst, leb-false, lt-ltb, take_all, length-drop, length-take, get_or-drop, get_or-take, ◌⊎◌, ◌&&◌}, lemmas.{Bool.{cases_eq, cases_Bool, cond-true, and_from, and_cases}, List.{length_push, take-append-le}}}
 use Rattle.std.proofs.lemmas.Option.{none-some, same_Some, cond_some}
-use Rattle.std.specs.Prelude.{◌⊎◌, ◌&&◌}
-use Rattle.dn_tic.specs.{declared.command.TicCmd.TicCmd, declared.input.Input.Input}
-use Rattle.dn_tic.specs.declared.command.Move.{Move}
+use Rattle.dn_tic.specs.declared.{command.{TicCmd.TicCmd, Move.Move}, input.Input.Input}
 use Rattle.dn_setup.specs.Settings.{Settings}
-use Rattle.dn_machine.specs.Making.{Making}
-use Rattle.dn_machine.specs.{Worlds.{Inputs, RulesBy, command, row, if_made, world}, Flight.{Flight, Kind, SetUp, Play, Exit}, Node.{put, Node, ends_of, made, own_mark, has_left, lowest, got, ran, held_at, is_whole}, declared.answers.Phase.TheVariants.{Playing, Ended}, Game.{Game, with_node, own_marks, on_own_run, posted}, Sending.{on_build_by, first_sent, last_sent, left_kind, set_up_flight, commands_flight, request_to, after_sent, on_send}}
-use Rattle.dn_machine.specs.declared.answers.Cause.{Cause}
+use Rattle.dn_machine.specs.{Making.Making, declared.answers.Cause.Cause}
 use Rattle.dn_machine.specs.Running.{is_over, is_absent, is_awaited, first_off, row_held, marks_kept, full_at, on_quit}
+use Rattle.dn_machine.specs.{Worlds.{Inputs, RulesBy, command, row, if_made, world}, Flight.{Flight, Kind, SetUp, Play, Exit}, Node.{put, Node, ends_of, made, own_mark, has_left, lowest, got, ran, held_at, is_whole}, declared.answers.Phase.TheVariants.{Playing, Ended}, Game.{Game, with_node, own_marks, on_own_run, posted}, Sending.{on_build_by, first_sent, last_sent, left_kind, set_up_flight, commands_flight, request_to, after_sent, on_send}}
 use Rattle.dn_machine.proofs.{Invariant.{History, IsPiece, ComesFromInputs, HasTrueMarks, IsKept, history_of, IsSound}, Truth.{command_same, row_same, back_same, world_same, row_of_same, world_after_true, lowest_none, lowest_none_each, command_mark, same_passes}, Put.{longer, pushed, view_put, view_kept, put_at, put_off}, Calls.{build_by_cases, built_by, run_cases, quit_cases, send_cases}}
-use Rattle.dn_machine.proofs.Demos.{whole_held, front_stops, front_goes_on}
+use Rattle.dn_machine.proofs.{Demos.{whole_held, front_stops, front_goes_on}, Peers.same_ends}
 use Rattle.dn_machine.proofs.Invariant
 use Rattle.dn_machine.proofs.Placing
 use Rattle.dn_machine.proofs.Calls
-use Rattle.dn_machine.proofs.Peers.{same_ends}
 
 -- A build: the commands held, the rows run and the packets sent stay pieces of what the players' inputs make.
 
@@ -22,8 +18,7 @@ module _ {making : Making} {S : Type 0} (rules : RulesBy making S) (settings : S
     (from_inputs : ComesFromInputs rules settings history flights) where
   -- a build, by a player who has not left
   module _ (me : ℕ) (mine : me < rules.players) (stays : history.left me ≡ false) (input : Input)
-      (room : length (history.inputs me) < length (history.rows me) + rules.ahead)
-      (back : rules.ahead ≤ 12) where
+      (room : length (history.inputs me) < length (history.rows me) + rules.ahead) (back : rules.ahead ≤ 12) where
     -- the first inputs stay the first
     pub inputs_kept : (p k : ℕ) → k ≤ length (history.inputs me)
         → take k (history.inputs p) ≡ take k (put history.inputs me (history.inputs me ++ input ∷ []) p)
@@ -129,16 +124,12 @@ module _ {making : Making} {S : Type 0} (rules : RulesBy making S) (settings : S
       let new : TicCmd = making.command node.inputs (own_mark (game.nodes i) i (made i (game.nodes i))) in
       let sound = kept.sound i mine in
       Placing.placed rules settings game kept i mine node game.stopped game.flights _
-      (view_put (λ (n : Node). n.inputs) game.nodes i node)
-      (view_put (λ (n : Node). n.held) game.nodes i node)
-      (view_kept (λ (n : Node). n.rows) game.nodes i node refl)
-      (view_kept ends_of game.nodes i node refl)
+      (view_put (λ (n : Node). n.inputs) game.nodes i node) (view_put (λ (n : Node). n.held) game.nodes i node)
+      (view_kept (λ (n : Node). n.rows) game.nodes i node refl) (view_kept ends_of game.nodes i node refl)
       (Placing.left_placed rules settings game kept i mine node (λ h. h))
       (lists_built rules settings (history_of game) game.flights kept.from_inputs i mine
       (Placing.playing_stays rules settings game kept i mine plays) input room kept.window.back new
-      (built_true input plays room))
-      (grind (arith, length_push, whole_held))
-      (grind (arith, still_true)))
+      (built_true input plays room)) (grind (arith, length_push, whole_held)) (grind (arith, still_true)))
 
 -- A run and a quit.
 
@@ -177,20 +168,18 @@ module _ {making : Making} {S : Type 0} (rules : RulesBy making S) (settings : S
 
   -- no mark of a command that a playing node holds for its next tic is off
   pub none_off : (game.nodes i).phase ≡ Playing → IsThere → first_off rules.limits (game.nodes i) ≡ None
-  none_off e there =
-      grind (arith, lowest_none, same_passes, command_mark, Placing.own_mark_kept)
+  none_off e there = grind (arith, lowest_none, same_passes, command_mark, Placing.own_mark_kept)
 
   -- the row that it holds for its next tic is the true one
   seat_true : IsThere → (p : ℕ) → p < rules.players
       → cond (is_absent (game.nodes i) p) None (Some (held_at (game.nodes i) p (ran (game.nodes i))))
       ≡ if_made (inputs_now p) (ran (game.nodes i)) (command rules settings inputs_now p (ran (game.nodes i)))
-  seat_true there p l =
-      elim (cases_Bool (is_absent (game.nodes i) p)) [
-        | inl gone ↦
-            let end = over (ends_of (game.nodes i) p) (ran (game.nodes i)) gone in
-            let tip = (kept.from_inputs.ended i p end.0 mine l end.1).1 in grind arith
-        | inr present ↦ grind arith
-      ]
+  seat_true there p l = elim (cases_Bool (is_absent (game.nodes i) p)) [
+    | inl gone ↦
+        let end = over (ends_of (game.nodes i) p) (ran (game.nodes i)) gone in
+        let tip = (kept.from_inputs.ended i p end.0 mine l end.1).1 in grind arith
+    | inr present ↦ grind arith
+  ]
 
   row_true : IsThere → row_held rules.limits (game.nodes i) ≡ row rules settings inputs_now
       (length (game.nodes i).rows)
@@ -213,11 +202,9 @@ module _ {making : Making} {S : Type 0} (rules : RulesBy making S) (settings : S
   -- the cases of a run, since no mark is off
   pub cases : (P : Node → Type 0)
       → (((game.nodes i).phase ≡ Playing → lowest rules.players (is_awaited (game.nodes i)) ≢ None)
-      → P (game.nodes i))
-      → ((game.nodes i).phase ≡ Playing → IsThere
+      → P (game.nodes i)) → ((game.nodes i).phase ≡ Playing → IsThere
       → ran (game.nodes i) ≡ full_at rules.limits (row_held rules.limits (game.nodes i))
-      → P (record (game.nodes i) { phase = Ended Cause.Full }))
-      → ((game.nodes i).phase ≡ Playing → IsThere
+      → P (record (game.nodes i) { phase = Ended Cause.Full })) → ((game.nodes i).phase ≡ Playing → IsThere
       → ran (game.nodes i) ≢ full_at rules.limits (row_held rules.limits (game.nodes i)) → P ran_on)
       → P (on_own_run rules (game.nodes i)).0
   cases P same full free = run_cases rules.limits i (game.nodes i) (own_marks rules (game.nodes i)) P same
@@ -244,8 +231,7 @@ module _ {making : Making} {S : Type 0} (rules : RulesBy making S) (settings : S
             ap (λ (f : ℕ → ℤ). f p) (put_at (game.nodes i).marks (ran (game.nodes i)) tic told now)
             ∙ (cond-true (ltb p rules.players && not (is_absent (game.nodes i) p)) _ _
             (and_from (ltb p rules.players) (not (is_absent (game.nodes i) p)) (lt-ltb p rules.players l)
-            (ap not (here p l (omega arith))))
-            ∙ (grind (arith, world_true)))
+            (ap not (here p l (omega arith)))) ∙ (grind (arith, world_true)))
       ]
     where
       here : (p : ℕ) → p < rules.players → ran (game.nodes i) < length (inputs_now p)
@@ -265,12 +251,10 @@ module _ {making : Making} {S : Type 0} (rules : RulesBy making S) (settings : S
       Placing.placed rules settings game kept i mine ran_on game.stopped game.flights _
       (view_kept (λ (n : Node). n.inputs) game.nodes i ran_on refl)
       (view_kept (λ (n : Node). n.held) game.nodes i ran_on refl)
-      (view_put (λ (n : Node). n.rows) game.nodes i ran_on)
-      (view_kept ends_of game.nodes i ran_on refl)
+      (view_put (λ (n : Node). n.rows) game.nodes i ran_on) (view_kept ends_of game.nodes i ran_on refl)
       (Placing.left_placed rules settings game kept i mine ran_on (λ h. h))
       (Invariant.runs rules settings (history_of game) game.flights kept.from_inputs i mine there
-      (row_held rules.limits (game.nodes i)) (row_true there))
-      (ran_sound free)
+      (row_held rules.limits (game.nodes i)) (row_true there)) (ran_sound free)
       (grind (arith, Placing.marks_placed, told_true)))
 
 -- A send.
@@ -341,8 +325,7 @@ module _ {making : Making} {S : Type 0} (rules : RulesBy making S) (settings : S
       gathers apart None e = absurd (none-some settings e)
       gathers apart (Some s) e =
           subst (λ (z : Settings). IsKept rules settings
-          (posted (with_node game i (game.nodes i)) (set_up_flight i to (Some z))).0)
-          (sym (same_Some s settings e))
+          (posted (with_node game i (game.nodes i)) (set_up_flight i to (Some z))).0) (sym (same_Some s settings e))
           (posts (game.nodes i) _ refl refl refl refl refl (λ h. h) (kept.sound i mine) (set_up_piece to l apart))
 
       asks : (tic : ℕ) → request_to (game.nodes i) to ≡ Some tic → tic ≤ got (game.nodes i) to

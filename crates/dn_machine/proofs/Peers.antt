@@ -1,6 +1,6 @@
 -- What is kept of a peer after a packet, a node that keeps it, and ends that are not strange.
 use Rattle.std.proofs.Common.{◌≡◌, ◌≤◌, ℕ, Bool, true, cond, Option, Some, arith}
-use Rattle.dn_machine.specs.{declared.peer.Peer.Peer, Flight.{Flight, is_exit, end_of}, Node.{Node, with_peer, ends_of}, Hearing.{is_strange_end, after_request, after_exit, after_flight}}
+use Rattle.dn_machine.specs.{declared.peer.Peer.Peer, Flight.{Flight, is_exit, end_of}, Node.{Node, with_peer, ends_of}, Hearing.{is_strange_end, after_request, after_flight}}
 use Rattle.dn_machine.proofs.Put.{view_kept}
 
 pub asked_low : (places made : ℕ) (peer : Peer) (request : Option ℕ) → peer.resend ≤ made
@@ -11,10 +11,6 @@ asked_low places made peer request low = grind arith
 pub asked_end : (places made : ℕ) (peer : Peer) (request : Option ℕ)
     → (after_request places made peer request).end ≡ peer.end
 asked_end places made peer request = grind arith
-
--- and an end leaves the resend
-pub told_resend : (peer : Peer) (exit : Bool) (end : ℕ) → (after_exit peer exit end).resend ≡ peer.resend
-told_resend peer exit end = grind arith
 
 -- after a packet of commands
 pub flight_low : (places made : ℕ) (peer : Peer) (flight : Flight) → peer.resend ≤ made

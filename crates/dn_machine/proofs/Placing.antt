@@ -1,7 +1,6 @@
 -- A node of a game that has what every event keeps, and what it leaves when this node alone changes.
-use Rattle.std.proofs.Common.{◌≡◌, ℕ, ◌+◌, ◌<◌, ◌≤◌, ◌≢◌, Bool, true, false, List, length, refl, Option, Some, ℤ, arith}
-use Rattle.std.specs.Prelude.{slice_get}
-use Rattle.dn_tic.specs.{declared.command.TicCmd.TicCmd, declared.command.Move.Move}
+use Rattle.std.proofs.Common.{◌≡◌, ℕ, ◌+◌, ◌<◌, ◌≤◌, ◌≢◌, Bool, true, false, List, length, refl, Option, Some, ℤ, arith, slice_get}
+use Rattle.dn_tic.specs.declared.command.{TicCmd.TicCmd, Move.Move}
 use Rattle.dn_setup.specs.Settings.{Settings}
 use Rattle.dn_machine.specs.Making.{Making}
 use Rattle.dn_machine.specs.{declared.answers.Cause.Cause, declared.answers.Phase.Phase, declared.answers.Phase.TheVariants.{Gathering, Playing, Ended}, declared.peer.Peer.Peer, Worlds.{Inputs, RulesBy, mark_in, worlds_to}, Flight.Flight}
@@ -13,8 +12,7 @@ use Rattle.dn_machine.proofs.Invariant
 along : {making : Making} {S : Type 0} (rules : RulesBy making S) (settings : Settings) (a b : History) (flights : List Flight)
     → b.inputs ≡ a.inputs → b.held ≡ a.held → b.rows ≡ a.rows → b.ends ≡ a.ends → b.left ≡ a.left
     → ComesFromInputs rules settings a flights → ComesFromInputs rules settings b flights
-along rules settings a b flights k h r e l from_inputs =
-    grind arith
+along rules settings a b flights k h r e l from_inputs = grind arith
 
 module _ {making : Making} {S : Type 0} (rules : RulesBy making S) (settings : Settings) (game : Game)
     (kept : IsKept rules settings game) (i : ℕ) (mine : i < rules.players) where
@@ -52,15 +50,13 @@ module _ {making : Making} {S : Type 0} (rules : RulesBy making S) (settings : S
       → ComesFromInputs rules settings history flights → IsSound rules settings i new
       → ((q : ℕ) → q < rules.players → HasTrueMarks rules settings history.inputs (put game.nodes i new q))
       → IsKept rules settings (record { nodes = put game.nodes i new; stopped = stopped; flights = flights })
-  placed new stopped flights history k h r e more from_inputs sound marks =
-      record {
-        from_inputs = along rules settings (record history { left = λ q. has_left (put game.nodes i new q) }) _
-            flights k h r e refl
-            (grind (arith, Invariant.leaves));
-        window = kept.window;
-        sound = sound_placed new sound;
-        marks = grind arith;
-      }
+  placed new stopped flights history k h r e more from_inputs sound marks = record {
+    from_inputs = along rules settings (record history { left = λ q. has_left (put game.nodes i new q) }) _
+        flights k h r e refl (grind (arith, Invariant.leaves));
+    window = kept.window;
+    sound = sound_placed new sound;
+    marks = grind arith;
+  }
 
   -- a node whose lists are as they were, and other flights
   pub quiet_with : (new : Node) (stopped : ℕ → Bool) (flights : List Flight) → new.inputs ≡ (game.nodes i).inputs
@@ -104,11 +100,9 @@ module _ {making : Making} {S : Type 0} (rules : RulesBy making S) (settings : S
 
   -- another thing kept of a peer, with whatever commands of others: whoever was absent is
   module _ (from : ℕ) (peer : Peer) (held : ℕ → List TicCmd) (low : peer.resend ≤ made i (game.nodes i))
-      (still : (tic : ℕ) → is_over (ends_of (game.nodes i) from) tic ≡ true → is_over peer.end tic ≡ true)
-    where
-      abbrev pub kept_peer : Node
-      kept_peer = record (with_peer (game.nodes i) from peer) { held = held }
+      (still : (tic : ℕ) → is_over (ends_of (game.nodes i) from) tic ≡ true → is_over peer.end tic ≡ true) where
+    abbrev pub kept_peer : Node
+    kept_peer = record (with_peer (game.nodes i) from peer) { held = held }
 
-      pub peer_sound : held i ≡ (game.nodes i).held i → IsSound rules settings i kept_peer
-      peer_sound own =
-          grind (arith, whole_held)
+    pub peer_sound : held i ≡ (game.nodes i).held i → IsSound rules settings i kept_peer
+    peer_sound own = grind (arith, whole_held)

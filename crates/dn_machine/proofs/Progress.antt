@@ -1,7 +1,6 @@
 -- A game goes on as soon as the network delivers: one good round for the start, and for each tic thirteen and
 -- one for each packet that may be in vain.
-use Rattle.std.proofs.{Common.{◌≡◌, ℕ, zero, suc, ◌+◌, ◌-◌, ◌*◌, ◌<◌, ◌≤◌, ◌≢◌, Bool, true, not, List, refl, sym, ◌∙◌, ap, subst, arith, inl, inr}, lemmas.Bool.not-true}
-use Rattle.std.specs.Prelude.{◌⊎◌}
+use Rattle.std.proofs.{Common.{◌≡◌, ℕ, zero, suc, ◌+◌, ◌-◌, ◌*◌, ◌<◌, ◌≤◌, ◌≢◌, Bool, true, not, List, refl, sym, ◌∙◌, ap, subst, arith, inl, inr, ◌⊎◌}, lemmas.Bool.not-true}
 use Rattle.dn_setup.specs.Settings.{Settings}
 use Rattle.dn_machine.specs.{declared.answers.Phase.Phase, declared.events.Event.Event, Limits.IsWindow, Worlds.Rules, Node.{ran, is_ended}, Running.tic_limit, Game.Game, Runs.Runs}
 use Rattle.dn_machine.specs.Progress.{IsSwift, GoesInto, in_order, turn, good_round, good_rounds, NoneLost, AllRan, HasRoom}
@@ -65,8 +64,7 @@ module _ {S : Type 0} (rules : Rules S) (settings : Settings) (cap : ℕ) (sever
         (settled tic 0 (good_round rules (inputs (12 + more)) (good_rounds rules inputs (12 + more) game))
         (each_of (AtPair tic 0) (turn rules (inputs (12 + more))) rules.players
         (good_rounds rules inputs (12 + more) game)
-        (λ i g l at. search (rules, turn_keeps))
-        (search (rules, has_after))))
+        (λ i g l at. search (rules, turn_keeps)) (search (rules, has_after))))
 
     -- a tic more
     next_tic : (tic : ℕ) → suc tic + rules.ahead ≤ cap → (inputs : ℕ → ℕ → Input) (game : Game) → Settled tic game
@@ -153,8 +151,7 @@ module _ {S : Type 0} (rules : Rules S) (settings : Settings) (cap : ℕ) (sever
         let rest : ℕ = rounds - first in
         let whole : rounds ≡ rest + first = omega arith in
         subst (λ (g : Game). tic + count ≤ ran (g.nodes q))
-        (sym (rounds_add rules inputs game first rest rounds whole))
-        (search (rules, rounds_ran, goes_on_in))
+        (sym (rounds_add rules inputs game first rest rounds whole)) (search (rules, rounds_ran, goes_on_in))
 
 module _ {S : Type 0} (rules : Rules S) (settings : Settings) (fits : rules.capacity ≤ tic_limit)
     (several : 2 ≤ rules.players) (events : List Event) (game : Game) (run : Runs rules settings events game)

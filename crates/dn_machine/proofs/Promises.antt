@@ -1,13 +1,11 @@
 -- What every event keeps says what the headline says.
-use Rattle.std.proofs.{Common.{◌≡◌, ℕ, ◌+◌, ◌<◌, ◌≤◌, true, false, true≢false, ◌&&◌, List, [], length, get_or, drop, sym, ◌∙◌, ap, arith, Option, Some, inl, inr, eqb}, lemmas.Bool.{cases_lt, cases_eq, cond-false, ne_eqb, and_right}}
-use Rattle.std.proofs.{lemmas.Option.slice_get-get_or, lemmas.List.Prefix.front_from_reads}
-use Rattle.std.specs.Prelude.{slice_get, ◌⊎◌, nat_le}
+use Rattle.std.proofs.{Common.{◌≡◌, ℕ, ◌+◌, ◌<◌, ◌≤◌, true, false, true≢false, ◌&&◌, List, [], length, get_or, drop, sym, ◌∙◌, ap, arith, Option, Some, inl, inr, eqb, ne_eqb, slice_get, ◌⊎◌, nat_le}, lemmas.Bool.{cases_lt, cases_eq, cond-false, and_right}}
+use Rattle.std.proofs.lemmas.{Option.slice_get-get_or, List.Prefix.front_from_reads}
 use Rattle.dn_tic.specs.declared.command.Move.{Move}
 use Rattle.dn_setup.specs.Settings.{Settings}
-use Rattle.dn_machine.specs.Making.{Making}
-use Rattle.dn_machine.specs.{declared.answers.Phase.TheVariants.Playing, declared.answers.Heard.Heard, Worlds.{RulesBy, row, if_made, command}, Flight.{Flight, is_exit, end_of}}
-use Rattle.dn_machine.specs.{Node.{Node, ends_of, blank, got, made, ran, is_ended, has_left, known_end, lacks, is_whole, demo_rows}, Game.Game, Promise.{IsPrefixOf, inputs_of, Agree, Fits, Steady}, Hearing.{is_strange_end, on_packet}}
-use Rattle.dn_machine.specs.Headline.{AgreeWithin, AnyTwo, shown_by}
+use Rattle.dn_machine.specs.{Making.Making, Headline.{AgreeWithin, AnyTwo, shown_by}}
+use Rattle.dn_machine.specs.{declared.answers.Phase.TheVariants.Playing, declared.answers.Heard.Heard, Worlds.{RulesBy, row, if_made, command}, Flight.{Flight, end_of}}
+use Rattle.dn_machine.specs.{Node.{Node, blank, made, ran, is_ended, has_left, known_end, lacks, is_whole, demo_rows}, Game.Game, Promise.{IsPrefixOf, inputs_of, Agree, Fits, Steady}, Hearing.{on_packet}}
 use Rattle.dn_machine.proofs.{Invariant.{IsKept, history_of}, Truth.{world_after_true, length-commands_to, get_or-commands_to, lowest_none_each}, Demos.{front_prefix, front_passes, front_each, front_short, none_is, seat_is, whole_has}}
 use Rattle.dn_machine.proofs.Calls.{packet_cases}
 use Rattle.dn_machine.proofs.Invariant
@@ -52,9 +50,7 @@ module _ {making : Making} {S : Type 0} (rules : RulesBy making S) (settings : S
       → (has_left (game.nodes p) ≡ true) × (end ≡ made p (game.nodes p))
   known q p end l m h = elim (cases_eq p q) [
     | inl e ↦ grind arith
-    | inr n ↦
-        let told = kept.from_inputs.ended q p end l m (sym (cond-false (eqb p q) _ _ (ne_eqb p q n)) ∙ h) in
-        grind arith
+    | inr n ↦ grind (arith, kept.from_inputs.ended q p end l m (sym (cond-false (eqb p q) _ _ (ne_eqb p q n)) ∙ h))
   ]
 
   pub agree : Agree rules settings game
@@ -89,8 +85,7 @@ module _ {making : Making} {S : Type 0} (rules : RulesBy making S) (settings : S
       → is_whole rules.players (row rules settings (inputs_of game) tic) ≡ true → ⊥
   unfolding row
   not_whole p tic l m e =
-      true≢false
-      (sym (grind arith)
+      true≢false (sym (grind arith)
       ∙ whole_has rules.players
       (λ r. if_made (inputs_of game r) tic (command rules settings (inputs_of game) r tic)) e p l)
 
@@ -127,35 +122,27 @@ module _ {making : Making} {S : Type 0} (rules : RulesBy making S) (settings : S
     ahead = λ p l. let a = kept.from_inputs.ahead p l in let b = kept.from_inputs.counted p l in omega arith;
     close = λ p q l m goes_on.
         let stays = stays_in q goes_on in
-        let b = Invariant.close rules settings (history_of game) game.flights kept.from_inputs p q l m stays in
-        grind arith;
+        grind (arith, Invariant.close rules settings (history_of game) game.flights kept.from_inputs p q l m stays);
     room = λ q l. (kept.sound q l).room;
     least = least;
     most = λ q l. (kept.sound q l).most;
   }
 
-  module _ (which : ℕ) (flight : Flight) (number : ℕ) (posted : slice_get game.flights which ≡ Some flight)
-    where
-      abbrev Fine : Heard → Type 0
-      Fine answer = answer ≡ Heard.Dropped number → (number ≡ 6) ⊎ (number ≡ 13)
+  module _ (which : ℕ) (flight : Flight) (number : ℕ) (posted : slice_get game.flights which ≡ Some flight) where
+    abbrev Fine : Heard → Type 0
+    Fine answer = answer ≡ Heard.Dropped number → (number ≡ 6) ⊎ (number ≡ 13)
 
-      -- no packet reaches further than twice the window past what a playing receiver ran
-      within : (game.nodes flight.to).phase ≡ Playing → end_of flight
-          ≤ ran (game.nodes flight.to) + (rules.ahead + rules.ahead)
-      within e =
-          let piece = kept.from_inputs.pieces which flight posted in
-          let b = Invariant.close rules settings (history_of game) game.flights kept.from_inputs flight.from
-          flight.to
-          piece.sender piece.receiver (stays_in flight.to (ap is_ended e)) in grind arith
+    -- no packet reaches further than twice the window past what a playing receiver ran
+    within : (game.nodes flight.to).phase ≡ Playing → end_of flight
+        ≤ ran (game.nodes flight.to) + (rules.ahead + rules.ahead)
+    within e =
+        let piece = kept.from_inputs.pieces which flight posted in
+        let b = Invariant.close rules settings (history_of game) game.flights kept.from_inputs flight.from
+        flight.to piece.sender piece.receiver (stays_in flight.to (ap is_ended e)) in grind arith
 
-      -- no end is strange
-      no_strange : is_strange_end (is_exit flight.kind) (got (game.nodes flight.to) flight.from)
-          (ends_of (game.nodes flight.to) flight.from) (end_of flight) ≡ true → ⊥
-      no_strange = grind arith
-
-      pub drops : Fine (on_packet rules.limits flight.to (game.nodes flight.to) flight).1
-      drops = packet_cases rules.limits flight.to (game.nodes flight.to) flight (λ (r : Node × Heard). Fine r.1)
-          (grind (arith, within))
+    pub drops : Fine (on_packet rules.limits flight.to (game.nodes flight.to) flight).1
+    drops = packet_cases rules.limits flight.to (game.nodes flight.to) flight (λ (r : Node × Heard). Fine r.1)
+        (grind (arith, within))
 
   pub steady : Steady rules game
   steady = grind (arith, drops)

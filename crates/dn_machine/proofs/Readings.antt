@@ -1,23 +1,18 @@
 -- Readings of definitions that no test and no contract settles: when a row asks for room in the demo, that an
 -- EXIT packet may be far, and how soon good rounds start a game of which only a part has begun. The world only
 -- counts the tics.
-use Rattle.std.specs.Prelude.{ℕ, ◌+◌, ◌==◌, true, false, List, [], ◌∷◌, ◌≡◌, refl, pos, map, take, fold, Some, None, if◌then◌else◌, Bool, length, replicate, Option}
 use Rattle.dn_setup.specs.Settings.{Settings}
 use Rattle.dn_machine.specs.{declared.events.Event.Event, declared.events.Event.TheVariants.{Send, Deliver}, Flight.{Exit, Flight, is_near, Kind, Play}, Limits.{vanilla_limits, row_of, Limits, IsWindow}, Worlds.{Rules, world_after}}
 use Rattle.dn_machine.specs.{Node.{ran, lowest, blank, Node, with_peer, no_peer}, Game.{Game, opening_game, applied, fresh}, Sending.{on_build, on_build_by, on_send}, Hearing.{on_packet, is_within}, Running.{on_run, full_at}}
 use Rattle.dn_machine.specs.{Progress.{after, in_order, exchange, turn, good_round, good_rounds, IsSwift, GoesInto}, declared.answers.Made.Made, declared.answers.Phase.TheVariants.{Playing, Ended}}
 use Rattle.dn_tic.specs.{Pressed.pressed, Inputs.made_by, Command.used, declared.input.Input.TheVariants.Pressed}
-use Rattle.std.proofs.Common.{arith}
+use Rattle.std.proofs.Common.{arith, ℕ, ◌+◌, ◌==◌, true, false, List, [], ◌∷◌, ◌≡◌, refl, pos, map, take, fold, Some, None, if◌then◌else◌, Bool, length, replicate, Option}
 use Rattle.dn_machine.specs.declared.answers.Cause.TheVariants as Cause
 use Rattle.dn_machine.specs.declared.answers.Heard.TheVariants as Heard
 
 counting : (players : ℕ) → Rules ℕ
 counting players = record {
-  physics = record {
-    begin = λ start present. 0;
-    step = λ world row. world + 1;
-    mark = λ world player. pos world;
-  };
+  physics = record { begin = λ start present. 0; step = λ world row. world + 1; mark = λ world player. pos world };
   limits = vanilla_limits players false 8738;
 }
 

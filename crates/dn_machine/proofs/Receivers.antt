@@ -1,6 +1,5 @@
 -- What a packet leaves its receiver as, in a game that goes on, where each node plays or has left.
-use Rattle.std.proofs.{Common.{◌≡◌, ℕ, suc, min, ◌+◌, ◌<◌, ◌≤◌, ◌≢◌, Bool, true, false, List, length, cond, refl, ap, arith, Some, inl, inr}, lemmas.List.{length-append, length-drop}}
-use Rattle.std.specs.Prelude.{◌⊎◌}
+use Rattle.std.proofs.Common.{◌≡◌, ℕ, suc, min, ◌+◌, ◌<◌, ◌≤◌, ◌≢◌, Bool, true, false, List, length, cond, refl, ap, arith, Some, inl, inr, length-append, length-drop, ◌⊎◌}
 use Rattle.dn_tic.specs.declared.command.TicCmd.{TicCmd}
 use Rattle.dn_setup.specs.Settings.{Settings}
 use Rattle.dn_machine.specs.{declared.answers.Phase.TheVariants.Playing, declared.answers.Heard.Heard, declared.peer.Peer.Peer, Worlds.Rules, Flight.{Kind, Play, Exit, Flight, end_of, is_exit}}

@@ -1,8 +1,7 @@
 -- The rows and the worlds come from the inputs alone, since no move has a mark; and so from key states,
 -- where no command is given.
-use Rattle.std.proofs.Common.{◌≡◌, ℕ, ◌+◌, Bool, cond, List, length, take, refl, Option, Some, None, ltb, ℤ, pos, arith, ap, get_or, false, [], ◌∷◌, ◌++◌, map, sym, subst}
+use Rattle.std.proofs.Common.{◌≡◌, ℕ, ◌+◌, Bool, cond, List, length, take, refl, Option, Some, None, ltb, ℤ, pos, arith, ap, get_or, false, [], ◌∷◌, ◌++◌, map, sym, subst, option_map}
 use Rattle.std.proofs.{lemmas.List.{map-append, take-map, length-map}, lemmas.List.Elements.{All-head, All-tail}}
-use Rattle.std.specs.Option.{option_map}
 use Rattle.dn_tic.specs.{Pressed.pressed, Inputs.{last_input, made_of, made_by, states_of}, Command.used, declared.command.TicCmd.TicCmd, declared.input.Input.Input, declared.input.Input.TheVariants.{Pressed, Given}}
 use Rattle.dn_tic.proofs.Making.{made_by-pressed_alone}
 use Rattle.dn_setup.specs.Settings.{Settings}

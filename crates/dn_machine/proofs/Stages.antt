@@ -1,6 +1,5 @@
 -- How far a player is from giving another the command of a tic, by what they keep of each other.
-use Rattle.std.proofs.Common.{◌≡◌, ℕ, zero, suc, ◌+◌, ◌-◌, ◌*◌, ◌<◌, ◌≤◌, Bool, true, cond, min, length, arith, Some, None, inl, inr}
-use Rattle.std.specs.Prelude.{◌⊎◌, if◌then◌else◌}
+use Rattle.std.proofs.Common.{◌≡◌, ℕ, zero, suc, ◌+◌, ◌-◌, ◌*◌, ◌<◌, ◌≤◌, Bool, true, cond, min, length, arith, Some, None, inl, inr, ◌⊎◌, if◌then◌else◌}
 use Rattle.dn_machine.specs.{declared.peer.Peer.Peer, Limits.Limits, Node.{Node, made}, Sending.lag, Hearing.{is_within, after_request}}
 
 -- what a node has of one player: what it keeps of it, and how many of its commands
@@ -91,16 +90,14 @@ module _ (limits : Limits) (tic goal rounds later : ℕ) (mine mine_later its it
 
   pub asked_stage : Stage limits tic goal rounds mine its
       → its_later.got ≡ its.got → its_later.kept.want ≡ its.kept.want → its_later.kept.end ≡ its.kept.end
-      → Holds tic its ⊎ Asked its.got its.kept.want mine.kept mine_later.kept
-      → AfterHeard rounds later
+      → Holds tic its ⊎ Asked its.got its.kept.want mine.kept mine_later.kept → AfterHeard rounds later
       → Stage limits tic goal later mine_later its_later
   asked_stage (Has x) g w e h fit = grind arith
   asked_stage (Meets x y) g w e h fit = grind arith
   asked_stage (Asks x y) g w e h fit = grind arith
   asked_stage (Unknown more x y) g w e (inl holds) fit = grind arith
   asked_stage (Unknown more x y) g w e (inr (inl met)) fit = Meets (omega arith) (omega arith)
-  asked_stage (Unknown more x y) g w e (inr (inr off)) fit =
-      Unknown more (omega arith) (λ h. omega arith)
+  asked_stage (Unknown more x y) g w e (inr (inr off)) fit = Unknown more (omega arith) (λ h. omega arith)
 
 -- what another's request leaves of what is kept of it
 pub asks : (places made : ℕ) (peer : Peer) (want : Bool) (tic : ℕ)
@@ -112,6 +109,4 @@ asks places made peer want tic fits = grind arith
 pub reaches : (limits : Limits) (more : ℕ) → 1 ≤ limits.most → lag limits ≤ 1
     → lag limits + suc more * (limits.most - lag limits) ≡ reach limits more
 reaches limits zero some low = omega arith
-reaches limits (suc more) some low =
-    let before = reaches limits more some low in
-    omega arith
+reaches limits (suc more) some low = omega (arith, reaches limits more some low)

@@ -1,15 +1,13 @@
 -- After one good round every node plays.
-use Rattle.std.proofs.{Common.{◌≡◌, ℕ, ◌<◌, ◌≢◌, Bool, true, false, true≢false, [], length, refl, sym, ◌∙◌, ap, arith, Some, None, inl, inr, zero, suc, ◌≤◌}, lemmas.Bool.{cases_Bool, cases_eq}}
-use Rattle.std.specs.Prelude.{◌⊎◌}
+use Rattle.std.proofs.{Common.{◌≡◌, ℕ, ◌<◌, ◌≢◌, Bool, true, false, true≢false, [], length, refl, sym, ◌∙◌, ap, arith, Some, None, inl, inr, zero, suc, ◌≤◌, ◌⊎◌}, lemmas.Bool.{cases_Bool, cases_eq}}
 use Rattle.dn_tic.specs.declared.input.Input.{Input}
 use Rattle.dn_setup.specs.Settings.{Settings}
-use Rattle.dn_machine.specs.Making.{vanilla_making}
-use Rattle.dn_machine.specs.{declared.answers.Phase.TheVariants.{Gathering, Playing}, Worlds.Rules, Flight.{SetUp, Flight, is_near}, Node.{Node, made, is_ended, has_left}, Sending.{on_send, on_build, on_build_by, on_build_in}, Hearing.on_packet, Game.{Game, with_node}}
-use Rattle.dn_machine.specs.Progress.{exchange, after, turn, good_round, build_of}
+use Rattle.dn_machine.specs.{Making.vanilla_making, Progress.{exchange, after, turn, good_round, build_of}}
 use Rattle.dn_machine.specs.declared.answers.Phase.{Phase}
+use Rattle.dn_machine.specs.{declared.answers.Phase.TheVariants.{Gathering, Playing}, Worlds.Rules, Flight.{SetUp, Flight, is_near}, Node.{Node, made, is_ended, has_left}, Sending.{on_send, on_build, on_build_by, on_build_in}, Hearing.on_packet, Game.{Game, with_node}}
 use Rattle.dn_machine.proofs.{GoingOn.{Gives, accepted_build, IsFar, IsOn, far_after, exchange_far}, Openings.{Stands, Gathers, Listens, Plays, HasGone}, Begun.{AllGentle, exchange_gentle, IsBegun, build_gentle, with_exchange, With, WithFar, WithSo, gentle_begun, all_play, keep_build, keep_exchange, keep_run, keep_turn}}
-use Rattle.dn_machine.proofs.GoingOn
 use Rattle.dn_machine.proofs.{EachEvent.{two_of, one_of, build_round}, Calls.noted_all}
+use Rattle.dn_machine.proofs.GoingOn
 
 -- The key player's packet starts a listener, and a player's packet is noted by the key player.
 
@@ -35,8 +33,7 @@ module _ {S : Type 0} (rules : Rules S) (settings : Settings) (cap : ℕ) (stay 
   module _ (some : 0 < rules.players) (key_stays : stay 0 ≡ true) where
     -- the key player's packet starts a listener
     module _ (j : ℕ) (its : j < rules.players) (other : j ≢ 0) (game : Game)
-        (begun : IsBegun rules settings cap stay tic game)
-        (key : KeyGathers game) where
+        (begun : IsBegun rules settings cap stay tic game) (key : KeyGathers game) where
       abbrev set_up : Flight
       set_up = record { from = 0; to = j; kind = SetUp settings; start = 0; request = None; commands = [] }
 
@@ -89,13 +86,11 @@ module _ {S : Type 0} (rules : Rules S) (settings : Settings) (cap : ℕ) (stay 
           go (Plays e) = inl ((exchange_gentle rules game j 0 0).plays e)
           go (Gathers z e f k) =
               inr (ap (λ (g : Game). (g.nodes 0).noted j)
-              (GoingOn.exchanged rules settings game begun.live j 0 its some other gone asks_it sends
-              (near k))
+              (GoingOn.exchanged rules settings game begun.live j 0 its some other gone asks_it sends (near k))
               ∙ (grind arith))
 
     pub knows : (j : ℕ) → j < rules.players → j ≢ 0 → (game : Game)
-        → IsBegun rules settings cap stay tic game → IsIn j game
-        → KnowsOf j (exchange rules j game 0)
+        → IsBegun rules settings cap stay tic game → IsIn j game → KnowsOf j (exchange rules j game 0)
     knows j its other game begun (inl plays) =
         knows_by j its other game begun false ((game.nodes j).peers 0).want
         (GoingOn.sends_playing rules settings game begun.live j 0 other plays) (λ w. ap is_ended plays)
@@ -160,8 +155,7 @@ module _ {S : Type 0} (rules : Rules S) (settings : Settings) (cap : ℕ) (stay 
             one_of (So KeyGathers) (So (IsIn j)) (exchange rules 0) rules.players j
             (λ i h l n x. gathers_on i h l n x)
             (λ i h l n x. keep_exchange rules settings cap stay tic (IsIn j) (in_stable j) 0 i h x)
-            (λ h x. starts_one h x)
-            (after rules (build_of 0 (inputs 0)) g) its (key_built g key))
+            (λ h x. starts_one h x) (after rules (build_of 0 (inputs 0)) g) its (key_built g key))
 
         notes_one : (g : Game) → So (IsIn j) g → So (KnowsOf j) (exchange rules j g 0)
         notes_one g = search (rules, with_exchange, knows)
@@ -172,8 +166,7 @@ module _ {S : Type 0} (rules : Rules S) (settings : Settings) (cap : ℕ) (stay 
             one_of (So (IsIn j)) (So (KnowsOf j)) (exchange rules j) rules.players 0
             (λ i h l n x. keep_exchange rules settings cap stay tic (IsIn j) (in_stable j) j i h x)
             (λ i h l n x. keep_exchange rules settings cap stay tic (KnowsOf j) (knows_stable j) j i h x)
-            (λ h x. notes_one h x)
-            (after rules (build_of j (inputs j)) g) some
+            (λ h x. notes_one h x) (after rules (build_of j (inputs j)) g) some
             (keep_build rules settings cap stay tic (IsIn j) (in_stable j) j (inputs j) g plays))
 
         round_notes : (g : Game) → So KeyGathers g → So (KnowsOf j) (good_round rules inputs g)
@@ -184,8 +177,7 @@ module _ {S : Type 0} (rules : Rules S) (settings : Settings) (cap : ℕ) (stay 
             (λ i h l a b x. keep_turn rules settings cap stay tic (IsIn j) (in_stable j) inputs i l h x)
             (λ i h l a b x. keep_turn rules settings cap stay tic (KnowsOf j) (knows_stable j) inputs i l h x)
             (λ h x. key_turn h x)
-            (λ h x. other_turn h x)
-            g its key
+            (λ h x. other_turn h x) g its key
 
       pub round_starts : 2 ≤ rules.players → (g : Game) → IsBegun rules settings cap stay tic g
           → (g.nodes 0).phase ≡ Gathering → IsFar rules cap stay (good_round rules inputs g)
@@ -204,8 +196,7 @@ module _ {S : Type 0} (rules : Rules S) (settings : Settings) (cap : ℕ) (stay 
             | inr n ↦ known (round_notes j l n g (WithSo begun key))
           ]
             where
-              known : So (KnowsOf j) (good_round rules inputs g)
-                  → IsFar rules cap stay (good_round rules inputs g)
+              known : So (KnowsOf j) (good_round rules inputs g) → IsFar rules cap stay (good_round rules inputs g)
                   ⊎ (0 < j → KnowsOf j (good_round rules inputs g))
               known (WithFar far) = inl far
               known (WithSo now y) = inr (λ low. y)

@@ -1,14 +1,11 @@
 -- A game comes to where everybody plays.
-use Rattle.std.proofs.{Common.{◌≡◌, ℕ, zero, suc, ◌+◌, ◌*◌, ◌-◌, ◌<◌, ◌≤◌, ◌≢◌, Bool, true, false, List, [], ◌∷◌, ◌++◌, length, refl, sym, ap, subst, ◌∙◌, arith, inl, inr, Some}, lemmas.List.{length-append, append_assoc}, lemmas.Bool.{cases_Bool, ltb-true, ltb-false}}
-use Rattle.std.specs.Prelude.{slice_get, nat_lt, not, if◌then◌else◌}
+use Rattle.std.proofs.{Common.{◌≡◌, ℕ, zero, suc, ◌+◌, ◌*◌, ◌-◌, ◌<◌, ◌≤◌, ◌≢◌, Bool, true, false, List, [], ◌∷◌, ◌++◌, length, refl, sym, ap, subst, ◌∙◌, arith, inl, inr, Some, length-append, append_assoc, ltb-true, ltb-false, slice_get, nat_lt, not, if◌then◌else◌}, lemmas.Bool.cases_Bool}
 use Rattle.dn_setup.specs.{Settings.Settings, Gathered.{is_peer, all_noted}}
 use Rattle.dn_machine.specs.{declared.answers.Phase.TheVariants.{Gathering, Playing}, declared.answers.Heard.Heard, declared.events.Event.TheVariants.{Send, Deliver}, Limits.Limits, Worlds.Rules}
 use Rattle.dn_machine.specs.{Flight.{Flight, is_near}, Node.{Node, put, made}, Sending.on_send, Hearing.{on_packet, on_gathering}, Game.{Game, with_node, fresh, opening_game}, Progress.after, Runs.{Leads, Runs}}
 use Rattle.dn_machine.specs.Started.{started_node, heard_by, set_up_of, answer_of, key_node, start_flights, start_events, joining, IsStarted}
-use Rattle.dn_machine.proofs.GoingOn.{accepted, last_get}
-use Rattle.dn_machine.proofs.Put.{put_at, put_off, same_functions}
+use Rattle.dn_machine.proofs.{GoingOn.{accepted, last_get}, Put.{put_at, put_off, same_functions}, EachEvent.leads_more}
 use Rattle.dn_machine.proofs.Calls.{each_noted, noted_all}
-use Rattle.dn_machine.proofs.EachEvent.{leads_more}
 
 ap_if : (b : Bool) (one other : Node × Heard) → (if b then one else other).0 ≡ (if b then one.0 else other.0)
 ap_if true one other = refl
@@ -54,8 +51,7 @@ module _ (limits : Limits) (settings : Settings) where
     | inl below ↦ elim (cases_Bool (all_noted limits.players (heard_by (others + 1)))) [
       | inl all ↦
           let less : others + 1 + 1 < limits.players = ltb-true (others + 1 + 1) limits.players below in
-          let next = each_noted limits.players (heard_by (others + 1)) (others + 1 + 1) all (omega arith) less in
-          grind arith
+          grind (arith, each_noted limits.players (heard_by (others + 1)) (others + 1 + 1) all (omega arith) less)
       | inr some ↦ some ∙ sym (ap not below)
     ]
     | inr last ↦
@@ -169,8 +165,7 @@ module _ {S : Type 0} (rules : Rules S) where
       given : after rules (Send 0 next) game ≡ told
       given = sent game 0 next (omega arith) more (joined.going 0) (game.nodes 0) set_up
           (gives_settings rules.limits settings (game.nodes 0) next apart (grind (arith, joined, key_gathers))
-          (grind (arith, joined, key_gathers)))
-          ∙ put_back game 0 (game.nodes 0) set_up refl
+          (grind (arith, joined, key_gathers))) ∙ put_back game 0 (game.nodes 0) set_up refl
 
       set_up_at : slice_get told.flights (2 * others) ≡ Some set_up
       set_up_at = last_at game.flights set_up (2 * others) (ap length joined.flights ∙ start_length others)
@@ -218,11 +213,7 @@ module _ {S : Type 0} (rules : Rules S) where
         (
           playing,
           inl (sym begun),
-          (
-            answered,
-            inl (sym replied),
-            (heard, inl (sym all_in), refl),
-          ),
+          (answered, inl (sym replied), (heard, inl (sym all_in), refl)),
         ),
       )
 

@@ -1,6 +1,5 @@
 -- What a turn, and a round of turns, leaves of how far a player is from giving another the command of a tic.
-use Rattle.std.proofs.{Common.{◌≡◌, ℕ, ◌<◌, ◌≤◌, ◌≢◌, Bool, true, refl, arith, inl, inr}, lemmas.List.length_push}
-use Rattle.std.specs.Prelude.{◌⊎◌}
+use Rattle.std.proofs.{Common.{◌≡◌, ℕ, ◌<◌, ◌≤◌, ◌≢◌, Bool, true, refl, arith, inl, inr, ◌⊎◌}, lemmas.List.length_push}
 use Rattle.dn_tic.specs.declared.input.Input.{Input}
 use Rattle.dn_setup.specs.Settings.{Settings}
 use Rattle.dn_machine.specs.{declared.events.Event.Event, declared.events.Event.TheVariants.Run, Worlds.Rules, Node.{Node, got, made, ran}, Sending.{on_build, on_build_by}, Running.{is_absent, row_held}, Game.{Game, with_node, on_own_run}}

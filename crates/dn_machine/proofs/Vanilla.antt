@@ -1,5 +1,5 @@
 -- The numbers of 1997 are a window.
-use Rattle.std.proofs.{Common.{ℕ, Bool, arith, ◌≡◌, ◌+◌, ◌≤◌, drop, Option}, lemmas.List.{length-drop, take_all}}
+use Rattle.std.proofs.Common.{ℕ, Bool, arith, ◌≡◌, ◌+◌, ◌≤◌, drop, Option, length-drop, take_all}
 use Rattle.dn_machine.specs.{Limits.{vanilla_limits, IsWindow, Limits}, Progress.{IsSwift, GoesInto}, Flight.{Kind, Exit}, Node.{Node, made}, Sending.{first_sent, last_sent, left_kind, commands_flight}}
 
 pub vanilla_window : (players : ℕ) (extra : Bool) (capacity : ℕ) → IsWindow (vanilla_limits players extra capacity)

@@ -21,7 +21,8 @@ abbrev pub inputs_of : Game → Inputs
 inputs_of game player = (game.nodes player).inputs
 
 -- Agreement: what nodes hold and run is what the players' inputs make, the same at all of them.
-pub record Agree {making : Making} {S : Type 0} (rules : RulesBy making S) (settings : Settings) (game : Game) : Type 0 where
+pub record Agree {making : Making} {S : Type 0} (rules : RulesBy making S) (settings : Settings) (game : Game)
+    : Type 0 where
   -- the row that a node ran for a tic is that of the commands which the players' inputs make
   pub rows : (q tic : ℕ) → q < rules.players → tic < ran (game.nodes q)
       → slice_get (game.nodes q).rows tic ≡ Some (row rules settings (inputs_of game) tic)

@@ -52,8 +52,8 @@ abbrev pub marks_kept : Limits → Node → (ℕ → ℤ) → ℕ → ℤ
 marks_kept limits node marks player =
     if nat_lt player limits.players && not (is_absent node player) then marks player else pos 0
 
--- a playing node runs a tic, by the player that it waits for and the player whose mark is off, and is told
--- each player's mark in the world as it stands
+-- A playing node is asked to run a tic. `awaited` is the first player whose command it lacks, and `off` the
+-- first player whose mark is off, if there are such; `marks` are the players' marks in the world as it stands
 abbrev pub on_run_playing : Limits → Node → (ℕ → ℤ) → Option ℕ → Option ℕ → Node × Ran
 on_run_playing limits node marks (Some awaited) off = (node, Ran.Waiting awaited)
 on_run_playing limits node marks None (Some off) =
@@ -71,7 +71,7 @@ on_run_playing limits node marks None None =
       Ran.Ran (ran node),
     )
 
--- a node is asked to run a tic, in this phase, by the player whose mark is off
+-- the same of a node in any phase: one that does not play stays as it is
 abbrev pub on_run_in : Limits → Node → (ℕ → ℤ) → Option ℕ → Phase → Node × Ran
 on_run_in limits node marks off Playing =
     on_run_playing limits node marks (lowest limits.players (is_awaited node)) off
@@ -79,8 +79,7 @@ on_run_in limits node marks off Listening = (node, Ran.NotPlaying)
 on_run_in limits node marks off Gathering = (node, Ran.NotPlaying)
 on_run_in limits node marks off (Ended cause) = (node, Ran.NotPlaying)
 
--- a node is asked to run a tic, and told each player's mark in the world as it stands: the node after it, and the
--- answer
+-- a node is asked to run a tic, by the marks in the world as it stands: the node after it, and the answer
 unfoldable pub on_run : Limits → Node → (ℕ → ℤ) → Node × Ran
 on_run limits node marks = on_run_in limits node marks (first_off limits node) node.phase
 

@@ -1,9 +1,8 @@
 -- Rows that are listed as they come.
 use Rattle.std.proofs.Common.{◌≡◌, ◌≤◌, ◌<◌, ◌+◌, ◌%◌, ◌⊎◌, ℕ, List, [], ◌∷◌, ◌++◌, length, take, ap, sym, ◌∙◌, subst, arith, Option, refl, inl, inr, length-append, append_assoc}
-use Rattle.std.specs.Io.KnownBytes.{Appends, Consumes}
-use Rattle.std.proofs.KnownBytes.{Appends-trans, Consumes-trans}
-use Rattle.std.proofs.Math.Seq.{take-append-add}
+use Rattle.std.proofs.{KnownBytes.{Appends-trans, Consumes-trans}, Math.Seq.take-append-add}
 use Rattle.std.proofs.lemmas.List.{length-take, length-take-le, take-append-le}
+use Rattle.std.specs.Io.KnownBytes.{Appends, Consumes}
 use Rattle.dn_tic.specs.declared.command.Move.{Move}
 use Rattle.dn_world.specs.Plane.{Spots, walking}
 use Rattle.dn_demo.specs.Feeding.{Feeding, Shows, Takes, AreListed, Lists, TellsFront}
@@ -20,15 +19,12 @@ lines_more tic (x ∷ xs) ys = grind (arith, lines_more (tic + 1) xs ys, append_
 -- behind rows whose number is known
 pub lines_at : (tic next : ℕ) (xs ys : List (List (Option Move))) → next ≡ tic + length xs
     → lines_of_rows tic (xs ++ ys) ≡ lines_of_rows tic xs ++ lines_of_rows next ys
-lines_at tic next xs ys e = lines_more tic xs ys ∙ ap (λ n. lines_of_rows tic xs ++ lines_of_rows n ys)
-    (sym e)
+lines_at tic next xs ys e = lines_more tic xs ys ∙ ap (λ n. lines_of_rows tic xs ++ lines_of_rows n ys) (sym e)
 
 -- the lines of one more row that was told, or of none
 pub told_more : (f g h : Feeding Spots) (piece mid rest : List ℕ) (xs ys : List (List (Option Move)))
-    (text text' : List ℕ)
-    → TellsFront (λ w. w) walking f piece mid g xs → text ≡ lines_of_rows f.tics xs
-    → TellsFront (λ w. w) walking g mid rest h ys
-    → text' ≡ text ++ lines_of_rows g.tics ys
+    (text text' : List ℕ) → TellsFront (λ w. w) walking f piece mid g xs → text ≡ lines_of_rows f.tics xs
+    → TellsFront (λ w. w) walking g mid rest h ys → text' ≡ text ++ lines_of_rows g.tics ys
     → (rows : List (List (Option Move))) × TellsFront (λ w. w) walking f piece rest h rows
     × (text' ≡ lines_of_rows f.tics rows)
 told_more f g h piece mid rest xs ys text text' one same other more = grind (arith, tells_more, lines_at)
@@ -36,13 +32,12 @@ told_more f g h piece mid rest xs ys text text' one same other more = grind (ari
 -- a prefix of a text is written behind another text
 pub front_behind : (old mid new : Option (List ℕ)) (first text : List ℕ) → Appends old mid first
     → AppendsFront mid new text → AppendsFront old new (first ++ text)
-front_behind old mid new first text before front =
-    record {
-      count = length first + front.count;
-      fewer = omega (arith, length-append first text, front.fewer);
-      front = subst (λ (t : List ℕ). Appends old new t) (sym (take-append-add first text front.count))
-          (Appends-trans old mid new first (take front.count text) before front.front);
-    }
+front_behind old mid new first text before front = record {
+  count = length first + front.count;
+  fewer = omega (arith, length-append first text, front.fewer);
+  front = subst (λ (t : List ℕ). Appends old new t) (sym (take-append-add first text front.count))
+      (Appends-trans old mid new first (take front.count text) before front.front);
+}
 
 -- the lines are those of the rows of the bytes shown
 pub are_rows : (bytes : List ℕ) (f : Feeding Spots) (rows : List (List (Option Move)))
@@ -51,8 +46,7 @@ are_rows bytes f rows shown listed = (rows, rows_of_listed (λ w. w) walking byt
 
 -- and behind them those of the demo
 pub rows_shown : (bytes : List ℕ) (f : Feeding Spots) (rows : List (List (Option Move))) (last : List ℕ)
-    (status : ℕ)
-    → Shows (λ w. w) walking bytes f → AreListed bytes f.tics rows → IsDemo bytes last status
+    (status : ℕ) → Shows (λ w. w) walking bytes f → AreListed bytes f.tics rows → IsDemo bytes last status
     → IsRowsShown bytes (lines_of_rows 0 rows ++ last) status
 rows_shown bytes f rows last status shown listed demo =
     (lines_of_rows 0 rows, last, are_rows bytes f rows shown listed, demo, refl)
@@ -84,20 +78,18 @@ module _ (input mid output output' : Option (List ℕ)) (f : Feeding Spots)
     (so_far : ListsSoFar input mid output output' f) (n : ℕ) (room : f.taken + n ≤ 33554433) where
   -- more bytes were taken, whose rows are not listed
   pub lists_whole : (input' : Option (List ℕ)) (last : List ℕ) → n ≤ 4096 → f.taken < 33554433
-      → Consumes mid input' last → length last ≤ n
-      → ListsWhole 33554433 input input' output output'
-  lists_whole input' last small before more few =
-      record {
-        bytes = so_far.0;
-        last = last;
-        lines = lines_of_rows 0 so_far.4.0;
-        taken = Consumes-trans input mid input' so_far.0 last so_far.2 more;
-        within = omega (arith, few, room, so_far.3.taken);
-        pieces = inl (whole_pieces so_far.1.1 (omega (arith, before, so_far.3.taken)));
-        few = omega (arith, few, small);
-        shown = are_rows so_far.0 f so_far.4.0 so_far.3 so_far.4.1;
-        written = so_far.4.3;
-      }
+      → Consumes mid input' last → length last ≤ n → ListsWhole 33554433 input input' output output'
+  lists_whole input' last small before more few = record {
+    bytes = so_far.0;
+    last = last;
+    lines = lines_of_rows 0 so_far.4.0;
+    taken = Consumes-trans input mid input' so_far.0 last so_far.2 more;
+    within = omega (arith, few, room, so_far.3.taken);
+    pieces = inl (whole_pieces so_far.1.1 (omega (arith, before, so_far.3.taken)));
+    few = omega (arith, few, small);
+    shown = are_rows so_far.0 f so_far.4.0 so_far.3 so_far.4.1;
+    written = so_far.4.3;
+  }
 
   -- a piece was read, of which `count` bytes came, and it was fed
   module _ {input' : Option (List ℕ)} {g : Feeding Spots} {rows : List (List (Option Move))}
@@ -124,8 +116,7 @@ module _ (input mid output output' : Option (List ℕ)) (f : Feeding Spots)
     taken : Consumes input input' bytes
     taken = Consumes-trans input mid input' so_far.0 (take count buffer) so_far.2 up.taken
 
-    takes : Takes (λ w. w) walking f (take count buffer) g
-        × Lists (λ w. w) walking f (take count buffer) g rows
+    takes : Takes (λ w. w) walking f (take count buffer) g × Lists (λ w. w) walking f (take count buffer) g rows
     takes = tells_all (λ w. w) walking f g (take count buffer) rows
         (subst (λ (p : List ℕ). TellsFront (λ w. w) walking f p [] g rows)
         (take-append-le count buffer tail fits) tells)
@@ -147,8 +138,7 @@ module _ (input mid output output' : Option (List ℕ)) (f : Feeding Spots)
 
     -- its lines were written
     pub lists_more : (later : Option (List ℕ)) → Appends output' later text → f.taken < 33554433 → n ≤ count
-        → (n ≡ 4096) ⊎ (f.taken + n ≡ 33554433)
-        → ListsSoFar input input' output later g
+        → (n ≡ 4096) ⊎ (f.taken + n ≡ 33554433) → ListsSoFar input input' output later g
     lists_more later put under full piece = grind (arith, within, one_more, came, length-append, last_piece, taken, shown, listed, takes, written)
 
     -- and the input ended
@@ -167,13 +157,12 @@ module _ (input mid output output' : Option (List ℕ)) (f : Feeding Spots)
     -- a prefix of its lines was written
     pub lists_front : (later : Option (List ℕ)) → AppendsFront output' later text
         → ListsFront 33554433 input input' output later
-    lists_front later front =
-        record {
-          bytes = bytes;
-          lines = lines_of_rows 0 all_rows;
-          taken = taken;
-          within = within;
-          shown = inl (are_rows bytes g all_rows shown listed);
-          written = subst (λ (t : List ℕ). AppendsFront output later t) lines
-              (front_behind output output' later (lines_of_rows 0 so_far.4.0) text so_far.4.3 front);
-        }
+    lists_front later front = record {
+      bytes = bytes;
+      lines = lines_of_rows 0 all_rows;
+      taken = taken;
+      within = within;
+      shown = inl (are_rows bytes g all_rows shown listed);
+      written = subst (λ (t : List ℕ). AppendsFront output later t) lines
+          (front_behind output output' later (lines_of_rows 0 so_far.4.0) text so_far.4.3 front);
+    }

@@ -1,22 +1,18 @@
 -- The nodes of a game in their seats: one alone, and all together.
-use Rattle.std.proofs.Common.{◌≡◌, inr, ℕ, zero, suc, Bool, false, List, [], ◌∷◌, Option, Some, if◌then◌else◌, refl, ap, sym, ◌∙◌, subst}
-use Rattle.std.specs.Prelude.{slice_get, IfSome}
-use Rattle.std.proofs.lemmas.Option.{same_Some}
+use Rattle.std.proofs.Common.{◌≡◌, inr, ℕ, zero, suc, Bool, false, List, [], ◌∷◌, Option, Some, if◌then◌else◌, refl, ap}
+use Rattle.std.proofs.{Common.{sym, ◌∙◌, subst, slice_get, IfSome}, lemmas.Option.same_Some}
 use Rattle.dn_world.specs.{Physics.Physics, Plane.Spots}
-use Rattle.dn_node.specs.declared.node.Node.{Node}
-use Rattle.dn_node.specs.Contents.{contents, Represents}
+use Rattle.dn_node.specs.{declared.node.Node.Node, Contents.{contents, Represents}}
 use Rattle.dn_netgame.specs.{Turning.{Seat, rules_at, AreSeated}, PlayShown.{HasEverPlayed, IsPlay, new_seats, IsLoop}, Texts.node_line}
 use Rattle.dn_lockstep.specs.declared.config.Config.{Config}
-use Rattle.dn_game.specs.declared.config.GameConfig.{GameConfig}
-use Rattle.dn_game.specs.Opening.{AreFresh, rules_in}
+use Rattle.dn_game.specs.{declared.config.GameConfig.GameConfig, Opening.{AreFresh, rules_in}}
 
 one_of_one : {X : Type 0} (x y : X) (i : ℕ) → slice_get (x ∷ []) i ≡ Some y → x ≡ y
 one_of_one x y zero h = same_Some x y h
 one_of_one x y (suc i) h = absurd (cc)
 
 pub alone : {W S : Type 0} (state : W → S) (physics : Physics S) (nodes : List (Node W)) (node : Node W)
-    (seat : Seat)
-    → nodes ≡ node ∷ [] → Represents state (rules_at physics seat) seat.me (contents node) seat.node
+    (seat : Seat) → nodes ≡ node ∷ [] → Represents state (rules_at physics seat) seat.me (contents node) seat.node
     → AreSeated state physics nodes (λ place. seat)
 alone {W} {S} state physics nodes node seat one is i n there =
     let Q : Node W → Type 0 = λ y. Represents state (rules_at physics seat) seat.me (contents y) seat.node in

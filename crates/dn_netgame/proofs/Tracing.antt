@@ -1,16 +1,13 @@
 -- What an observer was told, and what its text is then.
 use Rattle.std.proofs.Common.{◌≡◌, ◌+◌, ℕ, List, [], ◌∷◌, ◌++◌, Result, append_assoc, append-nil, refl, sym, ap, ◌∙◌}
-use Rattle.std.specs.Prelude.{All}
-use Rattle.std.proofs.lemmas.List.Elements.{All-cons, All-nil}
-use Rattle.dn_machine.specs.{declared.events.Done.Done, declared.events.Event.Event, declared.events.Refusal.Refusal}
-use Rattle.dn_game.specs.Observed.{Observing, ObservesAll}
-use Rattle.dn_game.specs.Scripts.{event_line, script_text}
+use Rattle.std.proofs.{Common.All, lemmas.List.Elements.{All-cons, All-nil}}
+use Rattle.dn_machine.specs.declared.events.{Done.Done, Event.Event, Refusal.Refusal}
+use Rattle.dn_game.specs.{Observed.{Observing, ObservesAll}, Scripts.{event_line, script_text}}
 use Rattle.dn_netgame.specs.{Texts.{trace_line, trace_lines}, Told.{IsNotLeftOut, AddsTraced, AddsScripted}}
 
 -- the lines of events, each behind those before it
 module _ {L : Type 0} (observes : Observing L) (text : L → List ℕ) (P : Result Done Refusal → Type 0)
-    (line : ℕ → Event → Result Done Refusal → List ℕ)
-    (lines : ℕ → List Event → List (Result Done Refusal) → List ℕ)
+    (line : ℕ → Event → Result Done Refusal → List ℕ) (lines : ℕ → List Event → List (Result Done Refusal) → List ℕ)
     (none : (number : ℕ) → lines number [] [] ≡ [])
     (more : (number : ℕ) (e : Event) (es : List Event) (a : Result Done Refusal) (others : List (Result Done Refusal))
     → lines number (e ∷ es) (a ∷ others) ≡ line number e a ++ lines (number + 1) es others)

@@ -1,29 +1,20 @@
 -- One packet after another, and one run after another.
-use Rattle.std.proofs.Common.{◌≡◌, ◌+◌, ℕ, suc, List, Option, Result, Some, Ok, Err, subst, arith, ◌<◌, ◌%◌, ◌^◌, zero, true, nat_lt, None, refl, ap, ◌∙◌, rules, [], ◌∷◌, length, set, ◌⊎◌, inl, inr, false, sym}
-use Rattle.std.proofs.lemmas.Bool.{lt-ltb}
-use Rattle.std.specs.Option.{option_map}
-use Rattle.dn_packet.specs.{declared.packet.Packet.Packet, declared.packet.PacketFault.PacketFault}
-use Rattle.dn_setup.specs.{Settings.Settings, Setup.Told, declared.setup.SetupFault.SetupFault, declared.setup.SetupFault.TheVariants.NotSetup}
-use Rattle.dn_netgame.specs.Lines.{Done, count_after}
-use Rattle.dn_netgame.specs.declared.line.Datagram.{Datagram}
-use Rattle.dn_netgame.specs.declared.line.LineFault.{LineFault}
+use Rattle.std.proofs.Common.{◌≡◌, ◌+◌, ℕ, suc, List, Option, Result, Some, Ok, Err, subst, arith, ◌<◌, ◌%◌, ◌^◌, zero, true, nat_lt, None, refl, ap, ◌∙◌, rules, [], ◌∷◌, length, set, ◌⊎◌, false, lt-ltb, option_map}
+use Rattle.dn_packet.specs.declared.packet.{Packet.Packet, PacketFault.PacketFault}
+use Rattle.dn_setup.specs.{Settings.Settings, Setup.Told, declared.setup.SetupFault.{SetupFault, TheVariants.NotSetup}}
+use Rattle.dn_netgame.specs.{Lines.{Done, count_after}, declared.line.{Datagram.Datagram, LineFault.LineFault}}
+use Rattle.dn_netgame.specs.{declared.turns.Given.Given, Turning.Giving}
 use Rattle.dn_netgame.specs.Turning.{Ends, Hears, IsHeard, Polls, Reading, Receives, most_polls, Sends, SendsOne, Gives, sent_by, failed_by, AreOf, Seat, rules_at, AreSeated, is_ran, after_runs, next_ran, IsRunOn, IsLed, risen}
-use Rattle.dn_netgame.specs.Turning.{Giving}
-use Rattle.dn_netgame.specs.declared.turns.Given.{Given}
-use Rattle.dn_machine.specs.{Worlds.Rules, Flight.Flight, Sending.on_send}
+use Rattle.dn_machine.specs.{Worlds.Rules, Flight.Flight, Sending.on_send, Node.put, declared.answers.Ran.Ran}
+use Rattle.dn_machine.specs.Game.{on_own_run}
 use Rattle.dn_lockstep.specs.{Received.IsTold, Sent.{bytes_of, sent_to}}
-use Rattle.dn_node.specs.Contents.{Contents, contents}
-use Rattle.dn_packet.specs.Read as packet
-use Rattle.dn_machine.specs.Node as machine
+use Rattle.dn_node.specs.{Contents.{Contents, contents, Represents}, declared.node.Node.Node}
 use Rattle.dn_tic.specs.declared.input.Input.{Input}
 use Rattle.rand_pcg.specs.Lcg.{Lcg, next, advance, next_state, state_after}
 use Rattle.dn_world.specs.Physics.{Physics}
-use Rattle.dn_machine.specs.Node.{put}
-use Rattle.dn_machine.specs.declared.answers.Ran.{Ran}
-use Rattle.dn_machine.specs.Game.{on_own_run}
 use Rattle.dn_machine.proofs.Put.{set_and_put}
-use Rattle.dn_node.specs.declared.node.Node.{Node}
-use Rattle.dn_node.specs.Contents.{Represents}
+use Rattle.dn_packet.specs.Read as packet
+use Rattle.dn_machine.specs.Node as machine
 
 pub silent : {L : Type 0} (sends : Sends L) (me to : ℕ) (flight : Option Flight) (line : L)
     → None ≡ option_map bytes_of flight → SendsOne sends me to flight None line line
@@ -54,8 +45,7 @@ giving m line given = record { node = m; line = line; sent = given.sent; failed 
 -- one more packet
 pub given_more : {S L : Type 0} (sends : Sends L) (rules : Rules S) (me to : ℕ)
     (answer : Option (Result Done LineFault)) (start : Giving L) (m : machine.Node) (old new : L)
-    (before after : Given)
-    → to < rules.players → Gives sends rules me to start (giving m old before)
+    (before after : Given) → to < rules.players → Gives sends rules me to start (giving m old before)
     → SendsOne sends me to (sent_to to rules.limits me m).1 answer old new → IsCounted answer before after
     → Gives sends rules me (to + 1) start (giving (sent_to to rules.limits me m).0 new after)
 given_more {S} {L} sends rules me to answer start m old new before after below so_far line counted =
@@ -113,8 +103,7 @@ read_and_told bytes r tells =
 pub heard_more : {S L : Type 0} (polls : Polls L) (rules : Rules S) (me heard : ℕ) (datagram : Datagram)
     (old mid new : machine.Node × L)
     → Hears polls rules me heard old mid → polls mid.1 me (Ok (Some datagram)) new.1
-    → Receives rules me mid.0 datagram new.0
-    → Hears polls rules me (heard + 1) old new
+    → Receives rules me mid.0 datagram new.0 → Hears polls rules me (heard + 1) old new
 heard_more polls rules me heard datagram old mid new before polled received =
     let P : ℕ → Type 0 = λ k. Hears polls rules me k old new in
     let next : suc heard ≡ heard + 1 = omega arith in
@@ -135,8 +124,7 @@ pub polled_as : {L : Type 0} (polls : Polls L) (old new : L) (n me : ℕ)
 polled_as polls old new n me found answer number is polled = grind arith
 
 -- all runs so far ran a tic
-pub record RanSoFar {S : Type 0} (rules : Rules S) (old : machine.Node) (ran : ℕ)
-    (new : machine.Node) : Type 0 where
+pub record RanSoFar {S : Type 0} (rules : Rules S) (old : machine.Node) (ran : ℕ) (new : machine.Node) : Type 0 where
   pub runs : (k : ℕ) → k < ran → next_ran rules old k ≡ true
   pub after : new ≡ after_runs rules old ran
 
@@ -146,30 +134,12 @@ split k n below = search (arith, below)
 pub ran_more : {S : Type 0} (rules : Rules S) (old : machine.Node) (ran : ℕ) (mid : machine.Node)
     → RanSoFar rules old ran mid → is_ran (on_own_run rules mid).1 ≡ true
     → RanSoFar rules old (ran + 1) (on_own_run rules mid).0
-ran_more rules old ran mid before one =
-    let here : next_ran rules old ran ≡ true =
-    ap (λ (m : machine.Node). is_ran (on_own_run rules m).1) (sym before.after) ∙ one in
-    let P : ℕ → Type 0 = λ k. next_ran rules old k ≡ true in
-    let Q : ℕ → Type 0 = λ k. (on_own_run rules mid).0 ≡ after_runs rules old k in
-    let more : suc ran ≡ ran + 1 = omega arith in
-    record {
-      runs = λ k below. elim (split k ran below) [
-        | inl less ↦ before.runs k less
-        | inr same ↦
-            subst P (sym same) here
-      ];
-      after = subst Q more (ap (λ (m : machine.Node). (on_own_run rules m).0) before.after);
-    }
+ran_more rules old ran mid before one = grind (arith, split)
 
 pub ran_last : {S : Type 0} (rules : Rules S) (old : machine.Node) (ran : ℕ) (mid : machine.Node)
     → RanSoFar rules old ran mid → is_ran (on_own_run rules mid).1 ≡ false
     → IsRunOn rules old (on_own_run rules mid).0 ran
-ran_last rules old ran mid before one =
-    record {
-      runs = before.runs;
-      last = ap (λ (m : machine.Node). is_ran (on_own_run rules m).1) (sym before.after) ∙ one;
-      after = ap (λ (m : machine.Node). (on_own_run rules m).0) before.after;
-    }
+ran_last rules old ran mid before one = grind arith
 
 pub not_ran : (answer : Ran) → ((tic : ℕ) → answer ≡ Ran.Ran tic → ⊥) → is_ran answer ≡ false
 not_ran (Ran.Ran tic) never = absurd (never tic refl)

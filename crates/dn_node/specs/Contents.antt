@@ -9,8 +9,8 @@ use Rattle.dn_machine.specs.Worlds.{Rules, mark_in}
 use Rattle.dn_lockstep.specs.Contents as lockstep_of
 use Rattle.dn_lockstep.specs.Represents as lockstep_to
 use Rattle.dn_lockstep.specs.Represents.{marked_to}
-use Rattle.dn_lockstep.specs.Tables.{ring_at, slot}
-use Rattle.dn_node.specs.Kept.{Kept, peer_of}
+use Rattle.dn_lockstep.specs.Tables.{peer_of, ring_at, slot}
+use Rattle.dn_node.specs.Kept.{Kept}
 
 pub record Contents (W : Type 0) : Type 0 where
   pub lockstep : lockstep_of.Contents

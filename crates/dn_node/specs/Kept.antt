@@ -1,12 +1,11 @@
 -- What a node keeps.
-use Rattle.std.specs.Prelude.{ℕ, Bool, List, Option, slice_index_or}
+use Rattle.std.specs.Prelude.{ℕ, Bool, List, Option}
 use Rattle.dn_ring.specs.Ring.{Ring}
 use Rattle.dn_setup.specs.Settings.{Settings}
 use Rattle.dn_setup.specs.Gathered.{Gathered}
 use Rattle.dn_demo.specs.Recorded.{Recorded}
 use Rattle.dn_machine.specs.declared.answers.Phase.{Phase}
 use Rattle.dn_machine.specs.declared.peer.Peer.{Peer}
-use Rattle.dn_machine.specs.Node.{no_peer}
 use Rattle.dn_lockstep.specs.declared.marks.Slots.{Slots}
 
 pub record Kept (W : Type 0) : Type 0 where
@@ -33,7 +32,3 @@ pub record Kept (W : Type 0) : Type 0 where
   pub marks : List Slots
   pub demo : Recorded
   pub world : W
-
--- of several peers the one of this number
-abbrev pub peer_of : List Peer → ℕ → Peer
-peer_of peers player = slice_index_or peers player no_peer

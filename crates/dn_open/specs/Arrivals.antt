@@ -1,4 +1,4 @@
--- What a node makes of a packet that was opened.
+-- What a node does with a packet that was opened.
 use Rattle.std.specs.Prelude.{◌≡◌, ℕ, ◌/◌, ◌%◌, ◌&&◌, ◌||◌, ◌==◌, Bool, true, false, not, bit_and, if◌then◌else◌, List, slice_index, Option, is_some, Result, Ok}
 use Rattle.dn_packet.specs.declared.packet.Packet.{Packet}
 use Rattle.dn_packet.specs.declared.packet.PacketFault.{PacketFault}
@@ -35,8 +35,8 @@ asks_alike datagram ask =
     slice_index datagram 4 == request_byte ask
     && (if is_some ask then flag_in datagram flag.retransmit else not (flag_in datagram flag.retransmit))
 
--- a datagram tells the same sender as what is beside it, the same start, by the low byte, and the same request;
--- one of set-up tells none of these
+-- A datagram has the same sender as what is beside it, and the low bytes of the start and of the request there,
+-- or asks for nothing, as that does. A set-up datagram has none of these
 abbrev pub is_alike : Opened → Bool
 is_alike opened =
     flag_in opened.datagram.items flag.set_up
@@ -44,15 +44,15 @@ is_alike opened =
     && (slice_index opened.datagram.items 5 == opened.start % 256
     && asks_alike opened.datagram.items opened.ask))
 
--- what is like the numbers beside it
+-- its tics are near: it is received if it is like the numbers beside it
 abbrev pub on_close : Limits → ℕ → Node → Opened → Result Packet PacketFault → Result Settings SetupFault
     → Node × Arrived
 on_close limits me m opened read told =
     if is_alike opened then heard (received limits me m opened.from told read) else (m, Arrived.Unlike)
 
--- what was opened, and is read so, and tells these settings if it is a set-up packet: what tells a tic that is
--- more than 64 away is dropped, and what is not like the numbers beside it; any other datagram is heard as its
--- sender's
+-- A packet was opened, whose datagram is read so, and has these settings if it is a set-up packet. It is
+-- dropped if one of its tics is more than 64 away, or if the datagram is not like the numbers beside it; else
+-- it is received as its sender's
 abbrev pub on_opened : Limits → ℕ → Node → Opened → Result Packet PacketFault → Result Settings SetupFault
     → Node × Arrived
 on_opened limits me m opened read told =
@@ -60,7 +60,7 @@ on_opened limits me m opened read told =
     then on_close limits me m opened read told
     else (m, Arrived.Late)
 
--- what the datagram that was opened is read as, and tells
+-- the datagram that was opened is read so, and has these settings
 abbrev pub IsRead : Opened → Result Packet PacketFault → Result Settings SetupFault → Type 0
 IsRead opened read told = packet.IsReadAs opened.datagram.items read × IsTold read told
 

@@ -1,4 +1,4 @@
-//! What a lockstep makes of a packet that was opened.
+//! How a lockstep receives a packet that was opened.
 
 ghost use Rattle.dn_lockstep.specs.Contents.{contents};
 ghost use Rattle.dn_open.specs.Arrivals.{HearsOpened, SparesSealed};
@@ -7,7 +7,7 @@ use crate::alike::is_alike;
 use dn_lockstep::{Heard, Lockstep, are_tics_near};
 use dn_seal::Opened;
 
-/// What a node makes of a packet that was opened.
+/// What came of a packet that was opened.
 #[derive(Clone, Copy, Debug, PartialEq, Eq)]
 pub enum Arrived {
     /// The packet's first tic, or the tic that it asks for, is more than 64 from the number of commands that
@@ -16,7 +16,7 @@ pub enum Arrived {
     /// The datagram contradicts the numbers beside it, and changed nothing: it has another sender, another low
     /// byte of the start or of the request, or a request where they have none, or the other way round.
     Unlike,
-    /// What the node made of the datagram.
+    /// What `Lockstep::receive` returned for the datagram.
     Heard(Heard),
 }
 

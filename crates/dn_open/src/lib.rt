@@ -1,5 +1,5 @@
-//! What a lockstep makes of a packet that was opened: what is too old is dropped, and what contradicts the exact
-//! numbers beside it. So nothing is asked of the network, as long as no tag is forged.
+//! How a lockstep receives a packet that was opened. It drops one that is too old, and one that contradicts the
+//! exact numbers beside it. So nothing is required of the network, as long as nobody forges a tag.
 #![tactic(auto)]
 
 mod alike;

@@ -1,6 +1,7 @@
 -- The arguments of a command, as clap is told of them.
-use Rattle.std.specs.Prelude.{◌≡◌, ℤ, pos, true, List, [], ◌∷◌, ◌++◌, Some}
+use Rattle.std.specs.Prelude.{◌≡◌, ℤ, pos, true, List, [], ◌∷◌, ◌++◌, Some, codes}
 use Rattle.std.specs.Int.{int_max, int_min}
+use Rattle.clap.specs.Lexer.{usize_max}
 use Rattle.clap.specs.Values.{signed_between}
 use Rattle.clap.specs.Walk.{Rule, Text}
 use Rattle.clap.specs.Simple.{App, app_of, new_rule, on_top}
@@ -34,6 +35,21 @@ file_rule name = record (option_rule name) { value_names = 1 }
 -- a word that is no option's, and has to be there
 abbrev pub word_rule : Text → Rule
 word_rule name = record (new_rule name) { required = true; value_names = 1 }
+
+-- a file that is no option's, and may be left out
+abbrev pub path_rule : Text → Rule
+path_rule name = record (new_rule name) { value_names = 1 }
+
+-- one file or more, which may be left out
+abbrev pub files_rule : Rule
+files_rule =
+    record (path_rule (codes "files")) {
+      range = Some (record { start_inclusive = 1; end_inclusive = usize_max });
+    }
+
+-- one file or more, which have to be there
+abbrev pub wads_rule : Rule
+wads_rule = record files_rule { required = true }
 
 -- a command with more arguments
 abbrev pub with_rules : App → List Rule → App

@@ -4,7 +4,7 @@ use Rattle.clap.specs.Matches.{found_of}
 use Rattle.clap.specs.Simple.{App, Shape, matches_of, new_shape, subcommand_of, subcommand_rows_of}
 use Rattle.clap.specs.Walk.{Rule, Text, rows_of}
 use Rattle.clap.specs.declared.parser.matches.ArgMatches.{ArgMatches}
-use Rattle.dn_program.specs.Arguments.{file_rule, flag_rule, number_rule, with_default, word_rule}
+use Rattle.dn_program.specs.Arguments.{file_rule, files_rule, flag_rule, number_rule, path_rule, wads_rule, with_default, word_rule}
 
 -- a number with a default
 abbrev pub number : Text → (least greatest : ℤ) → Text → Rule
@@ -47,11 +47,29 @@ trace_rule = flag_rule (codes "trace")
 abbrev pub script_rule : Rule
 script_rule = record (flag_rule (codes "script")) { is_free = false }
 
+-- the file that is read, and the file that is made
+abbrev pub path_rules : List Rule
+path_rules = path_rule (codes "in") ∷ path_rule (codes "out") ∷ []
+
 abbrev pub upgrade_rules : List Rule
-upgrade_rules = limit_rule long_limit ∷ []
+upgrade_rules = limit_rule long_limit ∷ path_rules
+
+abbrev pub json_rule : Rule
+json_rule = flag_rule (codes "json")
+
+-- files of which lines or objects are told
+abbrev pub reader_rules : List Rule
+reader_rules = json_rule ∷ files_rule ∷ []
+
+abbrev pub lumps_rules : List Rule
+lumps_rules = json_rule ∷ wads_rule ∷ []
+
+-- two demos
+abbrev pub diff_rules : List Rule
+diff_rules = word_rule (codes "one") ∷ word_rule (codes "other") ∷ []
 
 abbrev pub sim_rules : List Rule
-sim_rules = game_rules short_limit ++ trace_rule ∷ []
+sim_rules = game_rules short_limit ++ (trace_rule ∷ files_rule ∷ [])
 
 abbrev pub storm_rules : List Rule
 storm_rules =
@@ -117,10 +135,18 @@ bare =
 -- what reads a datagram or a demo
 abbrev pub readers : List Shape
 readers =
-    subcommand (codes "show") []
-    ∷ subcommand (codes "demo") []
-    ∷ subcommand (codes "rows") []
+    subcommand (codes "show") reader_rules
+    ∷ subcommand (codes "demo") reader_rules
+    ∷ subcommand (codes "rows") reader_rules
     ∷ subcommand (codes "upgrade") upgrade_rules ∷ []
+
+-- what is asked of demos
+abbrev pub demos : List Shape
+demos =
+    subcommand (codes "stats") reader_rules
+    ∷ subcommand (codes "lumps") lumps_rules
+    ∷ subcommand (codes "diff") diff_rules
+    ∷ subcommand (codes "record") path_rules ∷ []
 
 -- what plays games in this process and on this machine
 abbrev pub games : List Shape
@@ -138,7 +164,7 @@ sessions =
     ∷ subcommand (codes "key") key_rules ∷ []
 
 unfoldable pub netgame : App
-netgame = with_subcommands bare ((readers ++ games) ++ sessions)
+netgame = with_subcommands bare (((readers ++ demos) ++ games) ++ sessions)
 
 -- what is read of a command line is what these words say by the rules of clap: each option's value, of the program
 -- and of the subcommand

@@ -2,7 +2,7 @@
 
 ghost use Rattle.std.specs.Prelude.{◌≡◌, [], ◌∷◌, IfOk, false};
 ghost use Rattle.clap.specs.Walk.{rule_of};
-ghost use Rattle.dn_program.specs.Arguments.{HasMore, file_rule, flag_rule, number_rule, with_default, word_rule};
+ghost use Rattle.dn_program.specs.Arguments.{HasMore, files_rule, flag_rule, number_rule, path_rule, wads_rule, with_default, word_rule};
 
 use clap::{Arg, ArgAction, Command, value_parser};
 use std::alloc::{AllocError, Global};
@@ -86,6 +86,41 @@ pub(crate) fn with_word<'a>(
         .required(true)
         .help(about);
     with(command, word)
+}
+
+/// Adds a file that is not an option, and may be left out.
+pub(crate) fn with_path<'a>(
+    alloc: Global,
+    command: Command<'a>,
+    name: &'a str,
+    value: &'a str,
+    about: &'a str,
+) -> Added<'a>
+    ensures { IfOk result (HasMore command.entry (path_rule name.entry.now ∷ [])) }
+{
+    with(command, Arg::new(alloc, name).value_name(value).help(about))
+}
+
+/// Adds the files that a command reads, of which there may be any number, by what help calls each.
+pub(crate) fn with_files<'a>(alloc: Global, command: Command<'a>, value: &'a str) -> Added<'a>
+    ensures { IfOk result (HasMore command.entry (files_rule ∷ [])) }
+{
+    let files = Arg::new(alloc, "files")
+        .value_name(value)
+        .num_args(1..)
+        .help("What is read; standard input, if no file is given");
+    with(command, files)
+}
+
+/// Adds the WADs that a command reads, of which there has to be one.
+pub(crate) fn with_wads<'a>(alloc: Global, command: Command<'a>) -> Added<'a>
+    ensures { IfOk result (HasMore command.entry (wads_rule ∷ [])) }
+{
+    let files = Arg::new(alloc, "files")
+        .value_name("WAD")
+        .num_args(1..)
+        .required(true);
+    with(command, files.help("What is read"))
 }
 
 /// Adds a flag.

@@ -15,6 +15,15 @@ use std::rt::{Env, Files};
 use std::time::Clock;
 use std::{env, io};
 
+/// Which of the standard streams are terminals.
+#[derive(Clone, Copy, Debug, PartialEq, Eq)]
+pub struct Terminals {
+    /// Standard input: a subcommand that reads it says so.
+    pub input: bool,
+    /// Standard error: a session over a network tells there each second how it goes.
+    pub errors: bool,
+}
+
 /// Prints a fault of the command line on standard error, and help on standard output.
 fn explain(rt: &(impl Print + Eprint), error: &Error) -> Result<u8, RunFault>
     ensures { IsExplained (kind_of error.now) result }
@@ -36,7 +45,7 @@ fn explain(rt: &(impl Print + Eprint), error: &Error) -> Result<u8, RunFault>
 /// Reads the command line and runs it, and answers the exit status.
 fn answer<
     R: Env + Input + Print + Eprint + AllocGlobal + Net + Files + RandomSource + Clock + Drop,
->(rt: &R, each_second: bool) -> Result<u8, RunFault> {
+>(rt: &R, terminals: Terminals) -> Result<u8, RunFault> {
     let alloc = rt.alloc();
     let words: Vec<String> = match env::args(rt) {
         Ok(words) => words.collect(alloc)?,
@@ -47,24 +56,26 @@ fn answer<
         }
     };
     match matches_of(alloc, words.as_slice()) {
-        Ok(matches) => run(rt, each_second, &matches),
+        Ok(matches) => run(rt, terminals, &matches),
         Err(error) => explain(rt, &error),
     }
 }
 
 /// Reads the command line and runs it, prints the line of a run that ended early, and answers the exit
 /// status: 0 where all went well, 1 where what was given was refused, 2 where the command line was wrong, 3 where
-/// the run broke off. With `each_second` a session over a network tells on standard error each second how it goes.
+/// the run broke off.
 /// No clause says so: the contracts of the system's handles do not tell what is read and printed. What the
 /// other subcommands print, and the lines of a session that played, are clauses of `dn_netgame` and `dn_measure`; the
 /// rest, and that this hands them on, is tested.
 pub fn finish<
     R: Env + Input + Print + Eprint + AllocGlobal + Net + Files + RandomSource + Clock + Drop,
->(rt: &R, each_second: bool) -> u8 {
-    match answer(rt, each_second) {
+>(rt: &R, terminals: Terminals) -> u8 {
+    match answer(rt, terminals) {
         Ok(status) => status,
         Err(fault) => {
-            let _ = rt.println(fault);
+            if rt.println(fault).is_err() {
+                let _ = rt.eprintln(fault);
+            }
             BROKEN_OFF
         }
     }

@@ -1,10 +1,12 @@
 //! The options of a game, and of what is played from a script or a seed.
 
 ghost use Rattle.std.specs.Prelude.{IfOk, [], ◌∷◌};
-ghost use Rattle.dn_program.specs.{Arguments.HasMore, Commands.choice_rules, Commands.flag_rules, Commands.game_rules, Commands.limit_rule, Commands.script_rule, Commands.seed_rule};
-ghost use Rattle.dn_program.specs.{Commands.short_limit, Commands.sim_rules, Commands.storm_rules, Commands.trace_rule, Commands.upgrade_rules};
+ghost use Rattle.dn_program.specs.{Arguments.HasMore, Commands.choice_rules, Commands.diff_rules, Commands.flag_rules, Commands.game_rules, Commands.json_rule, Commands.limit_rule, Commands.lumps_rules, Commands.path_rules, Commands.script_rule, Commands.seed_rule};
+ghost use Rattle.dn_program.specs.{Commands.short_limit, Commands.sim_rules, Commands.reader_rules, Commands.storm_rules, Commands.trace_rule, Commands.upgrade_rules};
 
-use crate::arguments::{Added, switch, with, with_flag, with_number};
+use crate::arguments::{
+    Added, switch, with, with_files, with_flag, with_number, with_path, with_wads, with_word,
+};
 use clap::Command;
 use std::alloc::Global;
 
@@ -19,29 +21,85 @@ pub(crate) fn with_seed<'a>(alloc: Global, command: Command<'a>, about: &'a str)
 fn with_limit<'a>(alloc: Global, command: Command<'a>, default: &'a str) -> Added<'a>
     ensures { IfOk result (HasMore command.entry (limit_rule default.entry.now ∷ [])) }
 {
-    let about = "Most bytes of a demo";
+    let about = "Most bytes of a demo, 1024 to 16777216";
     with_number(alloc, command, "limit", 1024, 16_777_216, default, about)
+}
+
+/// Adds the file that is read and the file that is made, by what help says of them.
+fn with_paths<'a>(alloc: Global, command: Command<'a>, input: &'a str, output: &'a str) -> Added<'a>
+    ensures { IfOk result (HasMore command.entry path_rules) }
+{
+    let from = with_path(alloc, command, "in", "IN", input)?;
+    with_path(alloc, from, "out", "OUT", output)
+}
+
+/// Adds the files of a recording.
+pub(crate) fn with_record<'a>(alloc: Global, command: Command<'a>) -> Added<'a>
+    ensures { IfOk result (HasMore command.entry path_rules) }
+{
+    let input = "The rows; standard input, if not given";
+    let output = "The file that is made for the demo; standard output, if not given";
+    with_paths(alloc, command, input, output)
+}
+
+/// Adds the flag that asks for objects in place of lines.
+fn with_json<'a>(alloc: Global, command: Command<'a>) -> Added<'a>
+    ensures { IfOk result (HasMore command.entry (json_rule ∷ [])) }
+{
+    with_flag(alloc, command, "json", "Prints a JSON object a line")
+}
+
+/// Adds the files of which lines or objects are told, by what help calls each.
+pub(crate) fn with_reader<'a>(alloc: Global, command: Command<'a>, value: &'a str) -> Added<'a>
+    ensures { IfOk result (HasMore command.entry reader_rules) }
+{
+    with_files(alloc, with_json(alloc, command)?, value)
+}
+
+/// Adds the WADs whose demos are listed.
+pub(crate) fn with_lumps<'a>(alloc: Global, command: Command<'a>) -> Added<'a>
+    ensures { IfOk result (HasMore command.entry lumps_rules) }
+{
+    with_wads(alloc, with_json(alloc, command)?)
+}
+
+/// Adds the two demos of a comparison.
+pub(crate) fn with_diff<'a>(alloc: Global, command: Command<'a>) -> Added<'a>
+    ensures { IfOk result (HasMore command.entry diff_rules) }
+{
+    let one = with_word(alloc, command, "one", "ONE", "A demo")?;
+    with_word(
+        alloc,
+        one,
+        "other",
+        "OTHER",
+        "The demo that it is compared with",
+    )
 }
 
 /// Adds the options of an upgrade.
 pub(crate) fn with_upgrade<'a>(alloc: Global, command: Command<'a>) -> Added<'a>
     ensures { IfOk result (HasMore command.entry upgrade_rules) }
 {
-    with_limit(alloc, command, "16777216")
+    let limit = with_limit(alloc, command, "16777216")?;
+    let input = "The demo; standard input, if not given";
+    let output = "The file that is made for the new demo; standard output, if not given";
+    with_paths(alloc, limit, input, output)
 }
 
 /// Adds the options of a game that are numbers, but for the limit.
 fn with_choice<'a>(alloc: Global, command: Command<'a>) -> Added<'a>
     ensures { IfOk result (HasMore command.entry choice_rules) }
 {
-    let about = "How many players there are";
+    let about = "How many players there are, 2 to 4";
     let players = with_number(alloc, command, "players", 2, 4, "2", about)?;
-    let about = "How hard it is, from 0 for the easiest";
+    let about = "How hard it is, 0 to 4, from the easiest";
     let skill = with_number(alloc, players, "skill", 0, 4, "2", about)?;
-    let about = "Which episode is played";
+    let about = "Which episode is played, 1 to 3";
     let episode = with_number(alloc, skill, "episode", 1, 3, "1", about)?;
-    let map = with_number(alloc, episode, "map", 1, 32, "1", "Which map is played")?;
-    let about = "Which deathmatch, or 0 for none";
+    let about = "Which map is played, 1 to 32";
+    let map = with_number(alloc, episode, "map", 1, 32, "1", about)?;
+    let about = "Which deathmatch, 0 to 2; 0 for none";
     with_number(alloc, map, "deathmatch", 0, 2, "0", about)
 }
 
@@ -98,7 +156,8 @@ pub(crate) fn with_sim<'a>(alloc: Global, command: Command<'a>) -> Added<'a>
     ensures { IfOk result (HasMore command.entry sim_rules) }
 {
     let game = with_game(alloc, command)?;
-    with_trace(alloc, game)
+    let trace = with_trace(alloc, game)?;
+    with_files(alloc, trace, "SCRIPT")
 }
 
 /// Adds the options of a storm, a game's among them.
@@ -106,10 +165,14 @@ pub(crate) fn with_storm<'a>(alloc: Global, command: Command<'a>) -> Added<'a>
     ensures { IfOk result (HasMore command.entry storm_rules) }
 {
     let game = with_game(alloc, command)?;
-    let seed = with_seed(alloc, game, "What the events are drawn from")?;
-    let about = "How many events there are";
+    let seed = with_seed(
+        alloc,
+        game,
+        "What the events are drawn from, 0 to 4294967295",
+    )?;
+    let about = "How many events there are, 1 to 1000000";
     let count = with_number(alloc, seed, "count", 1, 1_000_000, "1000", about)?;
-    let about = "How many rounds without losses come after the events";
+    let about = "How many rounds without losses come after the events, 0 to 1000";
     let calm = with_number(alloc, count, "calm", 0, 1_000, "0", about)?;
     let trace = with_trace(alloc, calm)?;
     with_script(alloc, trace)

@@ -13,7 +13,11 @@ use std::alloc::Global;
 fn with_key_seed<'a>(alloc: Global, command: Command<'a>) -> Added<'a>
     ensures { IfOk result (HasMore command.entry (seed_rule ∷ [])) }
 {
-    with_seed(alloc, command, "What the key presses are drawn from")
+    with_seed(
+        alloc,
+        command,
+        "What the key presses are drawn from, 0 to 4294967295",
+    )
 }
 
 /// Adds the options of rounds over sockets, a game's among them.
@@ -22,9 +26,9 @@ pub(crate) fn with_rounds<'a>(alloc: Global, command: Command<'a>) -> Added<'a>
 {
     let game = with_game(alloc, command)?;
     let seed = with_key_seed(alloc, game)?;
-    let about = "How many rounds there are";
+    let about = "How many rounds there are, 1 to 1000000";
     let rounds = with_number(alloc, seed, "rounds", 1, 1_000_000, "100", about)?;
-    let about = "The port of player 0, before those of the others";
+    let about = "The port of player 0, before those of the others, 1024 to 65532";
     with_number(alloc, rounds, "base", 1024, 65_532, "5029", about)
 }
 
@@ -40,7 +44,8 @@ pub(crate) fn with_player<'a>(alloc: Global, command: Command<'a>) -> Added<'a>
     ensures { IfOk result (HasMore command.entry play_rules) }
 {
     let rounds = with_rounds(alloc, command)?;
-    let me = with_number(alloc, rounds, "me", 0, 3, "0", "Which player this is")?;
+    let about = "Which player this is, 0 to 3";
+    let me = with_number(alloc, rounds, "me", 0, 3, "0", about)?;
     with_raw(alloc, me, "Prints the bytes of the demo and no line")
 }
 
@@ -58,7 +63,7 @@ fn with_session<'a>(alloc: Global, command: Command<'a>) -> Added<'a>
     ensures { IfOk result (HasMore command.entry session_rules) }
 {
     let seed = with_key_seed(alloc, with_key_file(alloc, command)?)?;
-    let about = "How many seconds are played, or 0 until the program is interrupted";
+    let about = "How many seconds are played, 0 to 86400; 0 until the program is interrupted";
     let seconds = with_number(alloc, seed, "seconds", 0, 86_400, "0", about)?;
     let about = "Prints the bytes of the demo, and its lines on standard error";
     with_raw(alloc, seconds, about)
@@ -69,9 +74,9 @@ pub(crate) fn with_host<'a>(alloc: Global, command: Command<'a>) -> Added<'a>
     ensures { IfOk result (HasMore command.entry host_rules) }
 {
     let game = with_long_game(alloc, command, "16777216")?;
-    let about = "The UDP port of the host";
+    let about = "The UDP port of the host, 1024 to 65535";
     let port = with_number(alloc, game, "port", 1024, 65_535, "5029", about)?;
-    let about = "How many tics a second are played";
+    let about = "How many tics a second are played, 1 to 35";
     let rate = with_number(alloc, port, "rate", 1, 35, "35", about)?;
     with_session(alloc, rate)
 }
@@ -80,13 +85,13 @@ pub(crate) fn with_host<'a>(alloc: Global, command: Command<'a>) -> Added<'a>
 pub(crate) fn with_join<'a>(alloc: Global, command: Command<'a>) -> Added<'a>
     ensures { IfOk result (HasMore command.entry join_rules) }
 {
-    let about = "The address of the host, and its port";
-    let address = with_word(alloc, command, "address", "HOST:PORT", about)?;
-    let about = "Which player this is to be; any, if not given";
+    let about = "The address of the host, and its port, 5029 if not given";
+    let address = with_word(alloc, command, "address", "HOST[:PORT]", about)?;
+    let about = "Which player this is to be, 1 to 3; any, if not given";
     let me = with_choice(alloc, address, "me", 1, 3, about)?;
-    let about = "How many players there have to be; any number, if not given";
+    let about = "How many players there have to be, 2 to 4; any number, if not given";
     let players = with_choice(alloc, me, "players", 2, 4, about)?;
-    let about = "The UDP port of this player; any that is free, if not given";
+    let about = "The UDP port of this player, 1024 to 65535; any that is free, if not given";
     let port = with_choice(alloc, players, "port", 1024, 65_535, about)?;
     with_session(alloc, port)
 }

@@ -1,65 +1,26 @@
-//! What `host`, `join` and `key` run.
+//! What `host` and `join` run.
 
-ghost use Rattle.std.specs.Prelude.{◌≡◌, codes};
-ghost use Rattle.clap.specs.Matches.{found_of, first_value};
-ghost use Rattle.dn_program.specs.{OptionValues.IsGuestOf, OptionValues.IsOwnPort, Printed.Answers, Printed.key_status, Sessions.IsHostingOf, Sessions.IsKeyRun, Sessions.IsPlanOf, Sessions.IsPrepared};
-ghost use Rattle.dn_program.specs.{Sessions.IsSecretOf};
+ghost use Rattle.dn_program.specs.{OptionValues.IsGuestOf, OptionValues.IsOwnPort, Sessions.IsHostingOf, Sessions.IsPlanOf, Sessions.IsPrepared};
 
+use crate::address::found;
 use crate::ends::{BROKEN_OFF, MISUSED, REFUSED, print_session};
-use crate::key::{KEY, KeyFault, make_key, read_key};
+use crate::key::KEY;
 use crate::options::Pace;
 use crate::say::say_line;
 use crate::screen::ErrorScreen;
+use crate::secrets::{secret_of, tell_key};
 use clap::ArgMatches;
 use dn_game::GameConfig;
-use dn_host::{Guest, Hosting, Os, Plan, Udp, address_of, host_game, join_game};
+use dn_host::{Guest, Hosting, Os, Plan, Udp, host_game, join_game};
 use dn_netgame::RunFault;
 use dn_session::Address;
-use std::net::{Net, ToSocketAddrs};
+use std::net::Net;
 use std::random::RandomSource;
 use std::rt::Files;
 use std::time::Clock;
 
 /// How many commands a player makes ahead of its runs, as many as a session allows.
 const AHEAD: u8 = 12;
-
-/// Prints the line of a key that was not made or not read, and answers the exit status.
-fn tell_key(rt: &(impl Print + Eprint), raw: bool, fault: KeyFault) -> Result<u8, RunFault>
-    ensures { Answers raw (key_status fault) result }
-{
-    say_line(rt, raw, fault)?;
-    if fault.is_refusal() {
-        Ok(REFUSED)
-    } else {
-        Ok(BROKEN_OFF)
-    }
-}
-
-/// Runs `key`, and answers the exit status.
-pub(crate) fn run_key(
-    rt: &(impl Print + Eprint + Files + RandomSource),
-    matches: &ArgMatches<'_>,
-) -> Result<u8, RunFault>
-    ensures { IsKeyRun (first_value (found_of matches.now) (codes "file")) result }
-{
-    let Some(file) = crate::options::file(matches) else {
-        return Ok(MISUSED);
-    };
-    match make_key(rt, file) {
-        Ok(()) => Ok(0),
-        Err(fault) => tell_key(rt, false, fault),
-    }
-}
-
-/// The key that the players share, if a file of one was given.
-fn secret_of(rt: &impl Files, matches: &ArgMatches<'_>) -> Result<Option<[u8; KEY]>, KeyFault>
-    ensures { IsSecretOf matches.now result }
-{
-    match crate::options::key(matches) {
-        Some(path) => Ok(Some(read_key(rt, path)?)),
-        None => Ok(None),
-    }
-}
 
 /// How a session goes.
 fn plan_of(secret: Option<[u8; KEY]>, pace: Pace) -> Plan
@@ -90,6 +51,7 @@ fn prepared(
     };
     let Ok(wire) = Udp::bind(rt, port) else {
         say_line(rt, raw, "socket fault")?;
+        let _ = eprintln!(rt; "UDP port {port} cannot be bound; another program may have it");
         return Ok(Err(BROKEN_OFF));
     };
     Ok(Ok((plan_of(secret, pace), wire)))
@@ -141,14 +103,6 @@ pub(crate) fn run_host<R: Print + Eprint + AllocGlobal + Net + Files + RandomSou
     print_session(rt, session, raw)
 }
 
-/// The first address of a host's name and port.
-fn found(rt: &impl Net, address: &str) -> Option<Address> {
-    match address.to_socket_addrs(rt) {
-        Ok(mut addresses) => Some(address_of(addresses.next()?)),
-        Err(_) => None,
-    }
-}
-
 /// Whom a joiner calls, and for what.
 fn guest_of(host: Address, matches: &ArgMatches<'_>) -> Guest
     ensures { IsGuestOf host matches.now result }
@@ -179,6 +133,9 @@ pub(crate) fn run_join<R: Print + Eprint + AllocGlobal + Net + Files + RandomSou
     let raw = crate::options::raw(matches);
     let Some(host) = found(rt, address) else {
         say_line(rt, raw, "address: not found")?;
+        let _ = eprintln!(rt;
+            "{address} is no address and no name that is known, with a port or without"
+        );
         return Ok(REFUSED);
     };
     let (plan, mut wire) = match prepared(rt, raw, own_port(matches), matches)? {

@@ -189,3 +189,10 @@ pub fn address<'a>(matches: &ArgMatches<'a>) -> Option<&'a str>
 {
     matches.get_str("address")
 }
+
+/// Whether objects are printed in place of lines.
+pub fn json(matches: &ArgMatches<'_>) -> bool
+    ensures { IsFlagOf matches.now (codes "json") result }
+{
+    flag(matches, "json")
+}

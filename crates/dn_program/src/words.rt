@@ -1,10 +1,11 @@
 //! The words of the command line: the subcommands, and how a line of words is read by them.
 
-ghost use Rattle.std.specs.Prelude.{◌≡◌, [], true, false, map, IfOk, IfErr, string_bytes};
-ghost use Rattle.clap.specs.{Simple.app_of, Simple.new_app, Simple.with_subcommand, Takes.takes, Values.kind_of, declared.builder.command.Command.TheViews.out-Command as fields_of, declared.error.kind.ErrorKind.TheVariants.OutOfMemory};
-ghost use Rattle.dn_program.specs.Commands.{IsReadAs, bare, games, netgame, readers, sessions, subcommand, with_subcommands};
+ghost use Rattle.std.specs.Prelude.{◌≡◌, true, false, map, IfOk, IfErr, string_bytes};
+ghost use Rattle.clap.specs.{Simple.app_of, Simple.new_app, Takes.takes, Values.kind_of, declared.builder.command.Command.TheViews.out-Command as fields_of, declared.error.kind.ErrorKind.TheVariants.OutOfMemory};
+ghost use Rattle.dn_program.specs.Commands.{IsReadAs, bare, demos, games, netgame, readers, sessions, with_subcommands};
 
 use crate::arguments::Added;
+use crate::game_options::with_reader;
 use crate::{game_options, net_options};
 use clap::{ArgMatches, Command, Error};
 use std::alloc::Global;
@@ -15,6 +16,14 @@ const SHOW: &str = "Prints the fields of a datagram";
 const DEMO: &str = "Plays a demo and prints where its players end";
 
 const ROWS: &str = "Prints each player's move in each tic of a demo, and where its players end";
+
+const STATS: &str = "Tells how long a demo is, and in how many tics each player did what";
+
+const DIFF: &str = "Tells the first tic in which two demos differ";
+
+const RECORD: &str = "Writes the demo of the lines that rows prints";
+
+const LUMPS: &str = "Lists the demos of WADs";
 
 const UPGRADE: &str = "Writes a demo anew, in version 111";
 
@@ -40,13 +49,6 @@ fn sub<'a>(alloc: Global, name: &'a str, about: &'a str) -> Command<'a>
     Command::new(alloc, name).about(about)
 }
 
-/// Adds a subcommand without options.
-fn add_plain<'a>(alloc: Global, command: Command<'a>, name: &'a str, about: &'a str) -> Added<'a>
-    ensures { IfOk result (λ c. app_of c ≡ with_subcommand (app_of command.entry) (subcommand name.entry.now [])) }
-{
-    command.subcommand(sub(alloc, name, about))
-}
-
 /// What `--version` prints behind the program's name.
 const PROGRAM_VERSION: &str = "1.0.0";
 
@@ -64,10 +66,20 @@ fn program<'a>(alloc: Global) -> Command<'a>
 fn with_readers<'a>(alloc: Global, command: Command<'a>) -> Added<'a>
     ensures { IfOk result (λ c. app_of c ≡ with_subcommands (app_of command.entry) readers) }
 {
-    let show = add_plain(alloc, command, "show", SHOW)?;
-    let demo = add_plain(alloc, show, "demo", DEMO)?;
-    let rows = add_plain(alloc, demo, "rows", ROWS)?;
+    let show = command.subcommand(with_reader(alloc, sub(alloc, "show", SHOW), "DATAGRAM")?)?;
+    let demo = show.subcommand(with_reader(alloc, sub(alloc, "demo", DEMO), "DEMO")?)?;
+    let rows = demo.subcommand(with_reader(alloc, sub(alloc, "rows", ROWS), "DEMO")?)?;
     rows.subcommand(game_options::with_upgrade(alloc, sub(alloc, "upgrade", UPGRADE))?)
+}
+
+/// Adds what is asked of demos.
+fn with_demos<'a>(alloc: Global, command: Command<'a>) -> Added<'a>
+    ensures { IfOk result (λ c. app_of c ≡ with_subcommands (app_of command.entry) demos) }
+{
+    let stats = command.subcommand(with_reader(alloc, sub(alloc, "stats", STATS), "DEMO")?)?;
+    let lumps = stats.subcommand(game_options::with_lumps(alloc, sub(alloc, "lumps", LUMPS))?)?;
+    let diff = lumps.subcommand(game_options::with_diff(alloc, sub(alloc, "diff", DIFF))?)?;
+    diff.subcommand(game_options::with_record(alloc, sub(alloc, "record", RECORD))?)
 }
 
 /// Adds what plays games.
@@ -94,7 +106,8 @@ fn netgame<'a>(alloc: Global) -> Added<'a>
     ensures { IfOk result (λ c. app_of c ≡ netgame) }
 {
     let readers = with_readers(alloc, program(alloc))?;
-    let games = with_games(alloc, readers)?;
+    let demos = with_demos(alloc, readers)?;
+    let games = with_games(alloc, demos)?;
     with_sessions(alloc, games)
 }
 

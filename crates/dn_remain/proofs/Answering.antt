@@ -1,12 +1,11 @@
 -- What the answers to a give-up and to a report tell.
-use Rattle.std.proofs.Common.{◌≡◌, ℕ, zero, suc, refl, ◌∙◌, ap, arith, inl, inr}
-use Rattle.std.specs.Prelude.{Bool, true, false, not, ◌&&◌, if◌then◌else◌, Option, Some, None}
-use Rattle.std.specs.Option.{option_or}
+use Rattle.std.proofs.Common.{◌≡◌, ℕ, zero, suc, refl, ◌∙◌, ap, arith, inl, inr, Bool, true, false, not, ◌&&◌, if◌then◌else◌, Option, Some, None}
 use Rattle.std.proofs.lemmas.Bool.{both_ways, cases_Bool, cond-true, true≢false}
-use Rattle.dn_machine.specs.{Limits.Limits, Node.got, Node.ends_of, Node.lowest}
-use Rattle.dn_machine.specs.Drops as drops
+use Rattle.std.specs.Option.{option_or}
+use Rattle.dn_machine.specs.{Limits.Limits, Node.{got, ends_of, lowest}}
 use Rattle.dn_remain.specs.{Vanished.Calls.every, Vanished.Calls.is_newer, Vanished.Commands.seen, declared.events.GivenUp.GivenUp, declared.events.Reported.Reported}
 use Rattle.dn_remain.specs.Wary.{Report, Wary, newest_seen, can_settle, after_news, with_gone, with_report, is_in_game, on_give_up, on_report, undecided}
+use Rattle.dn_machine.specs.Drops as drops
 
 module _ (limits : Limits) (me : ℕ) (wary : Wary) where
   -- it knows the ends of all whom it has given up, and has the commands before them

@@ -1,14 +1,12 @@
 -- A packet that comes to a node: what is known of it, and of the peer that is kept.
-use Rattle.std.proofs.Common.{◌≡◌, ℕ, ◌<◌, ◌≤◌, refl, sym, ◌∙◌, ap, arith, inl, inr, List, ◌∷◌, length, cond}
-use Rattle.std.specs.Prelude.{Bool, true, false, Option, Some, None}
-use Rattle.std.proofs.lemmas.{Bool.cond-true, Bool.cond-false, Option.same_Some}
+use Rattle.std.proofs.Common.{◌≡◌, ℕ, ◌<◌, ◌≤◌, refl, sym, ◌∙◌, ap, arith, inl, inr, List, ◌∷◌, length, cond, Bool, true, false, Option, Some, None}
+use Rattle.std.proofs.lemmas.{Bool.{cond-true, cond-false}, Option.same_Some}
 use Rattle.dn_tic.specs.declared.command.TicCmd.{TicCmd}
 use Rattle.dn_machine.specs.{declared.peer.Peer.Peer, Flight.Flight, Flight.is_exit, Flight.end_of, Node.with_peer, Node.ends_of, Node.got, Node.made, Game.Game, Game.with_node, Worlds.Rules}
-use Rattle.dn_machine.specs.Node as machine
-use Rattle.dn_machine.proofs.Games.{exit_is}
-use Rattle.dn_machine.proofs.Put.{put_off, same_functions}
+use Rattle.dn_machine.proofs.{Games.exit_is, Put.{put_off, same_functions}}
 use Rattle.dn_remain.specs.{Vanished.Node.Node, Vanished.Commands.Holder, Vanished.Commands.seen, Vanished.Commands.past_seen, Wary.reached, Wary.end_seen, Wary.rows_to, Wary.holder_of, Wary.now_of}
 use Rattle.dn_remain.proofs.{Vanished.Invariant.IsLater, Vanished.Invariant.IsKept, Vanished.Always.always, Vanished.Handing.was_seen, Vanished.Put.at_put, Seeing.same_holder, Seeing.reached_cases, Known.IsTold, Known.IsEnd, Known.Follows, Known.IsFit, Known.Went, Following.stays}
+use Rattle.dn_machine.specs.Node as machine
 
 module _ {S : Type 0} {known : ℕ → Holder TicCmd → Type 0} {rules : Rules S} {game : Game} {gone : ℕ → ℕ → Bool} {older : List (ℕ → Holder TicCmd)}
     (follows : Follows known rules game gone older) {flight : Flight}
@@ -38,8 +36,7 @@ module _ {S : Type 0} {known : ℕ → Holder TicCmd → Type 0} {rules : Rules 
       let a : length (told.state.held flight.from) ≤ length ((game.nodes flight.from).held flight.from) =
       (kept.sound told.by (seen told.state) (was_seen (now_of game gone ∷ older) told.by told.state told.had)).made
       flight.from in
-      let b = told.reaches in
-      omega arith
+      omega (arith, told.reaches)
 
   pub below_made : got (game.nodes flight.to) flight.from ≤ length ((game.nodes flight.from).held flight.from)
   below_made = (kept.sound flight.to (seen (now_of game gone flight.to)) (inl refl)).made flight.from

@@ -1,22 +1,18 @@
 -- The mark of a command that a node runs, or has run, is that of the node's own world. So is a mark that is
 -- compared, and a run finds none that is off.
-use Rattle.std.proofs.Common.{◌≡◌, ℕ, ◌+◌, ◌-◌, ◌<◌, ◌≤◌, refl, sym, ◌∙◌, ap, arith, inl, pos, leb, ltb, List, ◌∷◌, length, inr, [], take}
-use Rattle.std.specs.Prelude.{◌⊎◌, ◌&&◌, Bool, false, not, None}
+use Rattle.std.proofs.Common.{◌≡◌, ℕ, ◌+◌, ◌-◌, ◌<◌, ◌≤◌, refl, sym, ◌∙◌, ap, arith, inl, pos, leb, ltb, List, ◌∷◌, length, inr, [], take, ◌⊎◌, ◌&&◌, Bool, false, not, None}
 use Rattle.std.proofs.lemmas.{Bool.cond_both, Bool.cond-false, Bool.and_left, Bool.and_right, Bool.le-ltb, Bool.leb-false, Bool.ltb-true, List.length_push, Option.same_Some, Option.slice_get-get_or}
 use Rattle.dn_tic.specs.declared.command.TicCmd.{TicCmd}
 use Rattle.dn_tic.proofs.Making.{made_by-mark}
 use Rattle.dn_setup.specs.Settings.{Settings}
 use Rattle.dn_machine.specs.{declared.answers.Phase.TheVariants.Playing, Game.Game, Game.with_node, Node.got, Node.held_at, Node.own_mark, Node.lowest, Worlds.Rules, Node.blank, Node.made, Worlds.world_after}
-use Rattle.dn_machine.specs.Node as machine
-use Rattle.dn_machine.specs.Running.{is_absent, is_awaited, is_off, first_off, is_over}
-use Rattle.dn_machine.specs.Sparing.{first_off_but}
-use Rattle.dn_machine.proofs.Calls.{ran_on}
-use Rattle.dn_machine.proofs.Truth.{lowest_none, lowest_none_each, same_passes}
-use Rattle.dn_machine.proofs.Put.{put_at}
+use Rattle.dn_machine.specs.{Running.{is_absent, is_awaited, is_off, first_off, is_over}, Sparing.first_off_but}
+use Rattle.dn_machine.proofs.{Calls.ran_on, Truth.{lowest_none, lowest_none_each, same_passes}, Put.put_at}
 use Rattle.dn_remain.specs.{Vanished.Promise.lacks_at, Wary.end_seen, Wary.holder_of, Wary.now_of, Vanished.Node.Node, Vanished.Node.Was, Vanished.Node.ran, Vanished.Promise.Marked, Vanished.Steps.IsRun, Wary.rows_to, Wary.row_had}
 use Rattle.dn_remain.specs.Vanished.Commands.{Holder, Had, seen, past_seen, AreHanded}
 use Rattle.dn_remain.proofs.{Vanished.Always.always, Vanished.Handing.was_seen, Vanished.Invariant.IsKept, Known.Follows, Known.Went, Marked.IsMarked, Running.absent_is, Running.runs_on, Seeing.length_rows}
 use Rattle.dn_remain.proofs.{Seeing.over_before, Vanished.Handing.same_held, Vanished.Marks.marked, Vanished.Windows.roomy, Marked.fronts_same, Marked.world_same, Seeing.made_row, Seeing.same_row}
+use Rattle.dn_machine.specs.Node as machine
 use Rattle.dn_remain.proofs.Vanished.Windows as commands
 
 module _ {S : Type 0} (rules : Rules S) (settings : Settings) (game : Game) (gone : ℕ → ℕ → Bool)
@@ -50,8 +46,7 @@ module _ {S : Type 0} (rules : Rules S) (settings : Settings) (game : Game) (gon
   close =
       let a = (roomy rules.players rules.ahead (past_seen (now_of game gone ∷ older)) follows.run).own p
       (seen (now_of game gone p)) (inl refl) in
-      let b = long p in
-      omega arith
+      omega (arith, long p)
 
   -- the state in which the player made the command
   maker : (m : Node) × Was (past_seen history) p m × (m.got p ≡ tic) × (tic < ran m + rules.ahead)
@@ -109,8 +104,7 @@ module _ {S : Type 0} (rules : Rules S) (settings : Settings) (game : Game) (gon
   mark_is = grind (arith, close, made_it, held_same, made_by-mark, cond-false, le-ltb, world_same, fronts)
 
 module _ {S : Type 0} (rules : Rules S) (settings : Settings) (game : Game) (gone : ℕ → ℕ → Bool)
-    (older : List (ℕ → Holder TicCmd))
-    (follows : Follows (Had (now_of game gone ∷ older)) rules game gone older)
+    (older : List (ℕ → Holder TicCmd)) (follows : Follows (Had (now_of game gone ∷ older)) rules game gone older)
     (all_marked : (x : ℕ) → IsMarked rules settings x (game.nodes x)) (low : rules.ahead ≤ 12)
     (q : ℕ) (mine : q < rules.players) (plays : (game.nodes q).phase ≡ Playing)
     (nobody : lowest rules.players (is_awaited (game.nodes q)) ≡ None) where
@@ -151,8 +145,7 @@ module _ {S : Type 0} (rules : Rules S) (settings : Settings) (game : Game) (gon
         lowest_none_each rules.players (is_awaited (game.nodes q)) nobody p its in
         let here_too : leb (got (game.nodes q) p) tic ≡ false =
         sym (ap (λ (b : Bool). not b && leb (got (game.nodes q) p) tic) here) ∙ none in
-        let a = leb-false (got (game.nodes q) p) tic here_too in
-        omega arith
+        omega (arith, leb-false (got (game.nodes q) p) tic here_too)
 
     over : is_over (end_seen (game.nodes q) p) tic ≡ false
     over = sym (absent_is follows q mine p its) ∙ here
@@ -160,8 +153,7 @@ module _ {S : Type 0} (rules : Rules S) (settings : Settings) (game : Game) (gon
     present : lacks_at (seen then_seen) tic p ≡ false
     present =
         let a = longer in
-        (kept.sound q (seen then_seen) (was_seen history q then_seen was_then)).rows p tic its (omega arith)
-        ∙ over
+        (kept.sound q (seen then_seen) (was_seen history q then_seen was_then)).rows p tic its (omega arith) ∙ over
 
     pub mark_fits : (held_at (game.nodes q) p tic).mark ≡ own_mark (game.nodes q) p tic
     mark_fits =
@@ -171,8 +163,7 @@ module _ {S : Type 0} (rules : Rules S) (settings : Settings) (game : Game) (gon
         (λ back. refl) compared
         ∙ (sym ((all_marked q).told p (tic - 12) its (omega arith)
         (over_before (end_seen (game.nodes q) p) (tic - 12) tic (omega arith) over))
-        ∙ sym (cond-false (ltb tic 12) (pos 0) ((game.nodes q).marks (tic - 12) p) (le-ltb tic 12
-        (omega arith))))
+        ∙ sym (cond-false (ltb tic 12) (pos 0) ((game.nodes q).marks (tic - 12) p) (le-ltb tic 12 (omega arith))))
 
   -- so none is off of what is compared
   off_none : (p : ℕ) → p < rules.players → 12 < tic → (gone q p ≡ false) ⊎ (rules.ahead + rules.ahead ≤ 12)

@@ -1,16 +1,14 @@
 -- What holds after each event, where it holds of the game as it was, and after each call that is made: the
 -- cases of a run, of a give-up and of a report.
-use Rattle.std.proofs.Common.{◌≡◌, ℕ, ◌<◌, refl, arith, ◌≢◌, ℤ, sym, ◌∙◌, ap, cond, ltb, inl, inr}
-use Rattle.std.specs.Prelude.{false, Option, Some, None, slice_get, Bool, not, ◌&&◌, true}
-use Rattle.std.proofs.lemmas.Bool.{cond_both, ltb-true, eqb-false}
+use Rattle.std.proofs.Common.{◌≡◌, ℕ, ◌<◌, refl, arith, ◌≢◌, ℤ, sym, ◌∙◌, ap, cond, ltb, inl, inr, false, Option, Some}
+use Rattle.std.proofs.{Common.{None, slice_get, Bool, not, ◌&&◌, true}, lemmas.Bool.{cond_both, ltb-true, eqb-false}}
 use Rattle.std.specs.Bool.{⊤}
 use Rattle.dn_machine.specs.{declared.events.Event.Event, declared.events.Refusal.Refusal, Worlds.Rules, declared.answers.Cause.Cause, declared.answers.Phase.TheVariants.Playing, Limits.Limits, Node.Node}
-use Rattle.dn_machine.specs.{Node.held_at, Node.own_mark, Node.lowest, Node.ran, declared.answers.Ran.Ran, Runs.Next}
-use Rattle.dn_machine.specs.declared.events.Event.TheVariants.{Run}
+use Rattle.dn_machine.specs.{Node.{held_at, own_mark, lowest, ran}, declared.answers.Ran.Ran, Runs.Next}
+use Rattle.dn_machine.specs.{declared.events.Event.TheVariants.Run, Sparing.{on_run_but, is_off_but, first_off_but}}
 use Rattle.dn_machine.specs.Game.{Game, with_node, own_marks, refused_at, refused, on_event, applied_if, applied}
 use Rattle.dn_machine.specs.Running.{is_awaited, is_off, first_off, row_held, full_at, on_run}
-use Rattle.dn_machine.specs.Sparing.{on_run_but, is_off_but, first_off_but}
-use Rattle.dn_machine.proofs.{Calls.ended_by, Calls.ran_on, Put.same_functions}
+use Rattle.dn_machine.proofs.{Calls.{ended_by, ran_on}, Put.same_functions}
 use Rattle.dn_remain.specs.{declared.events.RemainEvent.RemainEvent, Vanished.Calls.is_newer, Vanished.Commands.seen, Vanished.Commands.on_decision}
 use Rattle.dn_remain.specs.Remaining.{Telling, Remaining, wary_of, with_wary, unless, with_telling, after_hearing, is_barred, after_run, after_event, NextRemain, NextGame, NobodyGivenUp}
 use Rattle.dn_remain.specs.Wary.{Wary, Report, on_give_up, on_report, report_to, report_of, newest_seen, can_settle, or_fresh, settled, after_news, with_gone, with_report, is_in_game}
@@ -64,8 +62,7 @@ nobody_is limits gone node marks nobody = run_is limits 0 gone node marks
 
 -- so where nobody is given up, each event does what it does in a game of the machine
 module _ {S : Type 0} (rules : Rules S) (all : Remaining) (nobody : NobodyGivenUp all) where
-  run_of : (node : ℕ) (o : Option Refusal) → after_run rules all node o ≡ (applied_if rules all.game
-      (Run node) o).0
+  run_of : (node : ℕ) (o : Option Refusal) → after_run rules all node o ≡ (applied_if rules all.game (Run node) o).0
   run_of node (Some refusal) = refl
   run_of node None = grind (arith, nobody_is)
 
@@ -116,11 +113,7 @@ module _ {S : Type 0} (rules : Rules S) (all : Remaining) (P : Event → Game �
     (on_run_but rules.limits (all.gone node) (all.game.nodes node) (own_marks rules (all.game.nodes node))).0)) where
   applies : (event : Event) → IsNoRun event → P event (applied rules all.game event).0
   unfolding applied
-  applies event n = go (refused rules.players all.game event) refl
-    where
-      go : (o : Option Refusal) → refused rules.players all.game event ≡ o → P event (applied_if rules all.game event o).0
-      go (Some refusal) h = same event
-      go None h = happens event h n
+  applies event n = grind (arith, refused, applied_if)
 
   run_on : (node : ℕ) (o : Option Refusal) → refused_at rules.players all.game node ≡ o
       → P (Run node) (after_run rules all node o)

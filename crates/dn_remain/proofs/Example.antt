@@ -1,16 +1,9 @@
 -- Three players, one of whom vanishes: where a list of events leads, and what the other two ran.
-use Rattle.std.proofs.Common.{◌≡◌, refl, inl, inr, List, [], ◌∷◌, arith}
-use Rattle.std.specs.Prelude.{Bool, true, false, slice_get, get_or}
+use Rattle.std.proofs.Common.{◌≡◌, refl, inl, inr, List, [], ◌∷◌, arith, Bool, true, false, slice_get, get_or}
 use Rattle.dn_setup.specs.Settings.{Settings}
-use Rattle.dn_machine.specs.declared.events.Event.{Event}
-use Rattle.dn_machine.specs.Game.{applied, opening_game}
-use Rattle.dn_machine.specs.Sending.{on_build_by, on_send}
-use Rattle.dn_machine.specs.Hearing.{on_packet}
-use Rattle.dn_machine.specs.Sparing.{on_run_but}
-use Rattle.dn_machine.specs.Limits.{row_of}
-use Rattle.dn_machine.specs.Node.{ran, lacks, lowest}
-use Rattle.dn_machine.specs.Worlds.{Rules, rules_of}
-use Rattle.dn_machine.specs.declared.events.Event.TheVariants.{Build, Send, Deliver, Run, Stop}
+use Rattle.dn_machine.specs.declared.events.Event.{Event, TheVariants.{Build, Send, Deliver, Run, Stop}}
+use Rattle.dn_machine.specs.{Game.{applied, opening_game}, Sending.{on_build_by, on_send}, Hearing.on_packet}
+use Rattle.dn_machine.specs.{Sparing.on_run_but, Limits.row_of, Node.{ran, lacks, lowest}, Worlds.{Rules, rules_of}}
 use Rattle.dn_world.specs.Physics.{Physics}
 use Rattle.dn_remain.specs.{Vanished.Calls.every, Vanished.Commands.longest, Wary.rows_to, Wary.on_give_up, Wary.on_report, declared.events.RemainEvent.RemainEvent}
 use Rattle.dn_remain.specs.Remaining.{Remaining, opening_remaining, after_give_up, after_telling, after_hearing, is_barred, after_event, NextRemain, LeadsRemain, RunsRemain}

@@ -1,25 +1,18 @@
 -- What is known of a game in which players may be given up, with one node put in its place; and that each
 -- event of the machine keeps it.
-use Rattle.std.proofs.Common.{◌≡◌, ℕ, ◌+◌, ◌<◌, refl, ◌∙◌, ap, arith, inl, inr, List, [], ◌∷◌, ◌++◌, length, ltb}
-use Rattle.std.specs.Prelude.{Bool, Option, ◌&&◌, true, false, Some, None, slice_get}
-use Rattle.std.proofs.lemmas.Bool.{cases_eq, ltb-true, and_parts}
-use Rattle.std.proofs.lemmas.List.{length_push}
+use Rattle.std.proofs.Common.{◌≡◌, ℕ, ◌+◌, ◌<◌, refl, ◌∙◌, ap, arith, inl, inr, List, [], ◌∷◌, ◌++◌, length, ltb, Bool, Option, ◌&&◌, false, Some, None, slice_get}
+use Rattle.std.proofs.lemmas.{Bool.{ltb-true, and_parts}, List.length_push}
 use Rattle.dn_tic.specs.{declared.command.TicCmd.TicCmd, declared.input.Input.Input, Inputs.made_by, declared.input.Input.TheVariants.Pressed, declared.input.Input.TheVariants.Given}
-use Rattle.dn_machine.specs.declared.answers.Phase.TheVariants.{Playing}
-use Rattle.dn_machine.specs.Node.{ends_of, made, ran, is_ended, own_mark, put}
-use Rattle.dn_machine.specs.Game.{Game, with_node}
-use Rattle.dn_machine.specs.Sending.{on_build}
-use Rattle.dn_machine.specs.Worlds.{Rules}
-use Rattle.dn_machine.specs.{declared.events.Event.Event, Flight.Flight, Game.own_marks, Game.refused_at, Game.refused, Game.delivered, Game.on_event, declared.events.Event.TheVariants.Build}
-use Rattle.dn_machine.specs.{declared.events.Event.TheVariants.Give, declared.events.Event.TheVariants.Send, declared.events.Event.TheVariants.Deliver, declared.events.Event.TheVariants.Run}
-use Rattle.dn_machine.specs.{declared.events.Event.TheVariants.Quit, declared.events.Event.TheVariants.Stop, Node.Node}
-use Rattle.dn_machine.proofs.{Calls.built, Calls.build_cases, Put.put_at, Put.put_off, Put.same_functions, Games.passes}
-use Rattle.dn_machine.specs.Node as machine
+use Rattle.dn_machine.specs.{declared.{answers.Phase.TheVariants.Playing, events.Event.Event}, Sending.on_build}
+use Rattle.dn_machine.specs.declared.events.Event.TheVariants.{Quit, Stop, Build, Give, Send, Deliver, Run}
+use Rattle.dn_machine.specs.{Node.{ends_of, made, ran, is_ended, own_mark, put, Node}, Worlds.Rules, Flight.Flight}
+use Rattle.dn_machine.specs.Game.{Game, with_node, own_marks, refused_at, refused, delivered, on_event}
+use Rattle.dn_machine.proofs.{Calls.{built, build_cases}, Put.{put_at, put_off, same_functions}, Games.passes}
 use Rattle.dn_remain.specs.{Vanished.Steps.Make, Vanished.Commands.Holder, Vanished.Commands.seen, Wary.reached, Wary.end_seen, Wary.rows_to, Wary.holder_of, Wary.now_of, Vanished.Commands.Had, Wary.Report}
 use Rattle.dn_remain.specs.{Remaining.Telling, Remaining.Remaining, Remaining.is_barred_flight, Remaining.is_barred, Remaining.after_event, Wary.Wary, Remaining.wary_of, Remaining.with_wary}
 use Rattle.dn_remain.proofs.{Seeing.same_node, Seeing.length_rows, Known.Follows, Known.Went, Known.fit_self, Known.not_left, Following.stays, Following.steps, Each.IsNoRun, Each.each_event, Known.known_so}
-use Rattle.dn_remain.proofs.{Hearing.hears, Running.runs, Running.quits, Sending.sends}
-use Rattle.dn_remain.proofs.Vanished.Put.{own_put, twice_put}
+use Rattle.dn_remain.proofs.{Hearing.hears, Running.{runs, quits}, Sending.sends, Vanished.Put.{own_put, twice_put}}
+use Rattle.dn_machine.specs.Node as machine
 
 same_all : (a b : Remaining) → a.game ≡ b.game → a.gone ≡ b.gone → a.newest ≡ b.newest → a.reports ≡ b.reports
     → a ≡ b
@@ -55,8 +48,7 @@ module _ {S : Type 0} {known : ℕ → Holder TicCmd → Type 0} {rules : Rules 
   me = game.nodes q
 
   -- one command more
-  module _ (input : Input) (plays : me.phase ≡ Playing)
-      (low : made q me < ran me + rules.ahead) where
+  module _ (input : Input) (plays : me.phase ≡ Playing) (low : made q me < ran me + rules.ahead) where
     abbrev next : machine.Node
     next = built rules.limits q me input
 
@@ -76,10 +68,7 @@ module _ {S : Type 0} {known : ℕ → Holder TicCmd → Type 0} {rules : Rules 
     counts p = grind (arith, built, longer, put_at, held_is, put_off)
 
     end_at : (p : ℕ) → end_seen next p ≡ end_seen me p
-    end_at p = elim (cases_eq p q) [
-      | inl e ↦ grind (arith, built)
-      | inr n ↦ ap (λ (cs : List TicCmd). reached (length cs) (ends_of me p)) (held_is p n)
-    ]
+    end_at p = grind (arith, built, reached, ends_of, held_is)
 
     ends_same : end_seen next ≡ end_seen me
     ends_same = same_functions end_at
@@ -150,10 +139,8 @@ module _ {S : Type 0} (known : ℕ → Holder TicCmd → Type 0) (rules : Rules 
     follows = anchored all older f
 
     -- an event of the machine
-    after_own : (game : Game) → Went had rules game all.gone
-        → AreFollowed known rules (record all { game = game })
-    after_own game went = carried past f.follows.knows (record all { game = game })
-        went.0 went.1 f.newest f.reports
+    after_own : (game : Game) → Went had rules game all.gone → AreFollowed known rules (record all { game = game })
+    after_own game went = carried past f.follows.knows (record all { game = game }) went.0 went.1 f.newest f.reports
 
     pub named : (node : ℕ) → refused_at rules.players all.game node ≡ None → node < rules.players
     named node h = ltb-true node rules.players (passes (ltb node rules.players) _ _ h)
@@ -175,10 +162,7 @@ module _ {S : Type 0} (known : ℕ → Holder TicCmd → Type 0) (rules : Rules 
     happens (Deliver which) h b n = delivers (slice_get all.game.flights which) which refl b
     happens (Run node) h b n = absurd n
     happens (Quit node) h b n = quits follows node (named node h)
-    happens (Stop node) h b n = (
-      older,
-      known_so _ _ rules all.game (put all.game.stopped node true) all.gone older follows follows.knows,
-    )
+    happens (Stop node) h b n = grind (arith, known_so, follows)
 
     pub owns : (event : Event) → is_barred all event ≡ false
         → AreFollowed known rules (record all { game = after_event rules all event })

@@ -1,15 +1,13 @@
 -- A game whose nodes have a history goes on: nothing that is seen changes, or one node steps.
-use Rattle.std.proofs.Common.{◌≡◌, ℕ, ◌<◌, ◌≤◌, sym, ◌∙◌, ap, subst, inl, inr, List, [], ◌∷◌, ◌++◌, length, get_or, take, refl, arith}
-use Rattle.std.specs.Prelude.{◌≢◌, ◌⊎◌, Bool, true, false, Some, None}
+use Rattle.std.proofs.Common.{◌≡◌, ℕ, ◌<◌, ◌≤◌, sym, ◌∙◌, ap, subst, inl, inr, List, [], ◌∷◌, ◌++◌, length, get_or, take, refl, arith, ◌≢◌, ◌⊎◌, Bool, true, false, Some, None}
 use Rattle.std.proofs.lemmas.{Bool.both_ways, List.length_push}
 use Rattle.dn_tic.specs.declared.command.TicCmd.{TicCmd}
-use Rattle.dn_machine.specs.Node as machine
-use Rattle.dn_machine.specs.{Node.ends_of, Node.made, Node.has_left, Node.put, Game.Game, Game.with_node, Worlds.Rules}
+use Rattle.dn_machine.specs.{Node.{ends_of, made, has_left, put}, Game.{Game, with_node}, Worlds.Rules}
 use Rattle.dn_machine.proofs.Put.{put_at, put_off, same_functions, view_put}
-use Rattle.dn_remain.specs.Vanished.Steps.{Act, Acts, Step, IsRun}
-use Rattle.dn_remain.specs.Vanished.Commands.{Holder, seen, past_seen, Had, AreHanded, Handed}
-use Rattle.dn_remain.specs.Wary.{end_seen, rows_to, holder_of, now_of, row_had}
+use Rattle.dn_remain.specs.Vanished.{Steps.{Act, Acts, Step, IsRun}, Commands.{Holder, seen, past_seen, Had, AreHanded}}
+use Rattle.dn_remain.specs.{Vanished.Commands.Handed, Wary.{end_seen, rows_to, holder_of, now_of, row_had}}
 use Rattle.dn_remain.proofs.{Vanished.Put.at_put, Vanished.Put.at_both, Vanished.Put.own_put, Seeing.rows_are, Vanished.Always.always, Vanished.Invariant.IsGrown, Seeing.length_rows, Known.IsTold, Known.IsEnd, Known.Follows, Known.told_later, Known.IsFit}
+use Rattle.dn_machine.specs.Node as machine
 
 -- another node, which has given up these, in one place
 moved_set : (game : Game) (gone : ℕ → ℕ → Bool) (q : ℕ) (new : machine.Node) (set : ℕ → Bool)
@@ -58,10 +56,7 @@ module _ {S : Type 0} {known : ℕ → Holder TicCmd → Type 0} {rules : Rules 
         let c : length (rows_to (end_seen new) (machine.ran new))
         ≡ length (rows_to (end_seen (game.nodes q)) (machine.ran (game.nodes q))) =
         ap (λ (h : Holder TicCmd). length h.rows) same in
-        elim fit.rows [
-          | inl e ↦ grind arith
-          | inr e ↦ grind (arith, length_push)
-        ]
+        grind (arith, length_push)
 
     -- nothing that is seen changes
     stays_set : holder_of new set ≡ old → Follows known rules next sets older
@@ -99,16 +94,7 @@ module _ {S : Type 0} {known : ℕ → Holder TicCmd → Type 0} {rules : Rules 
         let at : now_of next sets q ≡ holder_of new set =
         ap (λ (n : ℕ → Holder TicCmd). n q) all ∙ put_at (now_of game gone) q q (holder_of new set) refl in
         let step : Step rules.players rules.ahead (past_seen (now_of game gone ∷ older)) (λ x. seen (now_of next sets x)) =
-        record {
-          q = q;
-          act = act;
-          new = seen (holder_of new set);
-          player = mine;
-          here = here;
-          acts = acts;
-          next_is = ap (λ (n : ℕ → Holder TicCmd). λ (x : ℕ). seen (n x)) all
-              ∙ view_put (λ (h : Holder TicCmd). seen h) (now_of game gone) q (holder_of new set);
-        } in
+        grind (arith, seen, holder_of, view_put, now_of) in
         let hand : Handed (now_of game gone) older (now_of next sets) =
         record { q = q; new = holder_of new set; next_is = all; own = own; others = others } in
         record {

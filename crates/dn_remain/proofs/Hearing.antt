@@ -1,20 +1,18 @@
 -- A packet that comes to a node: it takes commands, learns an end, or changes nothing that is seen.
-use Rattle.std.proofs.Common.{◌≡◌, ℕ, refl, sym, ◌∙◌, ap, inl, List, ◌∷◌, ◌<◌, ◌≤◌, subst, arith, inr, length, take, ◌-◌, ◌++◌, drop, cond}
-use Rattle.std.specs.Prelude.{Bool, true, false, ◌⊎◌, Option, Some, None}
+use Rattle.std.proofs.Common.{◌≡◌, ℕ, refl, sym, ◌∙◌, ap, inl, List, ◌∷◌, ◌<◌, ◌≤◌, subst, arith, inr, length, take, ◌-◌, ◌++◌, drop, cond, Bool, true, false, ◌⊎◌, Option, Some, None, length-take-le}
 use Rattle.std.proofs.lemmas.Bool.{lt-leb, cases_Bool, cond-true, cond-false}
-use Rattle.std.proofs.lemmas.List.{length-take-le}
 use Rattle.dn_tic.specs.declared.command.TicCmd.{TicCmd}
 use Rattle.dn_machine.specs.{declared.answers.Heard.Heard, declared.peer.Peer.Peer, Flight.Flight, Node.got, Node.made, Node.is_ended, Game.Game, Game.with_node, Worlds.Rules, Hearing.after_request}
 use Rattle.dn_machine.specs.{Hearing.on_packet, Node.ends_of, Node.ran, Node.has_left, Node.put, Running.is_over, declared.answers.Phase.TheVariants.Playing, Flight.is_exit, Flight.end_of, Node.with_peer}
-use Rattle.dn_machine.specs.Node as machine
-use Rattle.dn_machine.proofs.{Calls.packet_cases, Calls.sender_after, Peers.asked_low, Peers.asked_end, Peers.flight_low, Peers.flight_end}
+use Rattle.dn_machine.proofs.{Calls.{packet_cases, sender_after}, Peers.{asked_low, asked_end, flight_low, flight_end}}
 use Rattle.dn_machine.proofs.Put.{put_at, put_off, same_functions}
-use Rattle.dn_remain.specs.{Wary.reached, Wary.holder_of, Wary.now_of, Vanished.Node.Within, Vanished.Steps.Take, Vanished.Steps.Learn, Wary.end_seen, Wary.rows_to}
+use Rattle.dn_remain.specs.{Wary.{reached, holder_of, now_of, end_seen, rows_to}, Vanished.Node.Within}
+use Rattle.dn_remain.specs.Vanished.{Steps.{Take, Learn}, Commands.{seen, Holder, past_seen, Had}}
 use Rattle.dn_remain.proofs.{Seeing.same_holder, Known.IsTold, Known.Follows, Known.Went, Known.IsFit, Known.fit_self, Known.not_left, Following.stays, Arriving.quiet, Vanished.Invariant.IsKept}
 use Rattle.dn_remain.proofs.{Vanished.Always.always, Vanished.Handing.was_seen, Vanished.Put.at_put, Seeing.same_node, Seeing.length_rows, Seeing.rows_alike, Seeing.reached_some, Following.steps}
 use Rattle.dn_remain.proofs.{Vanished.Lists.begins, Vanished.Handing.handed, Seeing.taken_is, Vanished.Put.own_put, Seeing.reached_none, Seeing.reached_cases, Known.IsEnd, Arriving.end_is, Arriving.made_it}
 use Rattle.dn_remain.proofs.{Arriving.below_made, Arriving.unknown, Arriving.end_known, Arriving.fit_peer}
-use Rattle.dn_remain.specs.Vanished.Commands.{seen, Holder, past_seen, Had}
+use Rattle.dn_machine.specs.Node as machine
 
 -- A node that takes commands of another, and one that learns an end.
 
@@ -87,8 +85,7 @@ module _ {S : Type 0} {known : ℕ → Holder TicCmd → Type 0} {rules : Rules 
           same_node (seen (holder_of new (gone q))) _ (same_functions counts) ends refl has.left
               (ap (λ (e : ℕ → Option ℕ). rows_to e (ran new)) ends
               ∙ ap (λ (n : ℕ). rows_to (end_seen old) n) has.ran),
-        )
-            (inl own_list) others,
+        ) (inl own_list) others,
       )
 
   -- the end is
@@ -119,14 +116,11 @@ module _ {S : Type 0} {known : ℕ → Holder TicCmd → Type 0} {rules : Rules 
         open_from,
         left,
         back,
-        same_node (seen (holder_of new (gone q))) _
-            (same_functions (λ p. counts p
-            ∙ ap (λ (i : ℕ). put (λ r. length (old.held r)) from i p) last))
-            (same_functions end_at) refl has.left
+        same_node (seen (holder_of new (gone q))) _ (same_functions (λ p. counts p
+            ∙ ap (λ (i : ℕ). put (λ r. length (old.held r)) from i p) last)) (same_functions end_at) refl has.left
             (ap (λ (e : ℕ → Option ℕ). rows_to e (ran new)) (same_functions end_at)
             ∙ (ap (λ (n : ℕ). rows_to ends n) has.ran ∙ rows_alike _ _ (ran old) over_same)),
-      )
-          (inl own_list) others,
+      ) (inl own_list) others,
     )
 
 -- A packet of commands is stale, lies past a gap, or is taken.
@@ -249,10 +243,7 @@ module _ {S : Type 0} {known : ℕ → Holder TicCmd → Type 0} {rules : Rules 
           | inl none ↦ pass f none.0
           | inr some ↦
               let is = follows.ends flight.to flight.from some.0 some.1 open_from in
-              let a = is.3 in
-              let b = made_it follows told open_from in
-              let c = some.3 in
-              let at : some.0 ≡ end_of flight = omega arith in
+              let at : some.0 ≡ end_of flight = omega (arith, is.3, made_it follows told open_from, some.3) in
               learn_end (subst (λ (i : ℕ). IsEnd game.nodes gone flight.to flight.from i) at is)
               (old_end f ∙ (some.1 ∙ ap (λ (i : ℕ). Some i) at))
         ]
@@ -285,14 +276,8 @@ module _ {S : Type 0} {known : ℕ → Holder TicCmd → Type 0} {rules : Rules 
       packet_cases rules.limits flight.to hearer flight
       (λ (r : machine.Node × Heard). Went known rules (with_node game flight.to r.0) gone) (record {
         dropped = λ number why. same;
-        starts = λ s e k. goes_on _
-            (record { ends = self.ends; endless = self.endless; resend = self.resend; rows = inl refl })
-            (same_holder _ (holder_of hearer (gone flight.to)) refl refl refl
-            (sym (not_left hearer (ap is_ended e))) refl);
-        completes = λ word e all. goes_on _
-            (record { ends = self.ends; endless = self.endless; resend = self.resend; rows = inl refl })
-            (same_holder _ (holder_of hearer (gone flight.to)) refl refl refl
-            (sym (not_left hearer (ap is_ended e))) refl);
+        starts = grind (arith, goes_on, ends, same_holder, holder_of, hearer, not_left, is_ended);
+        completes = grind (arith, goes_on, ends, same_holder, holder_of, hearer, not_left, is_ended);
         notes = λ word e some. goes_on _
             (record { ends = self.ends; endless = self.endless; resend = self.resend; rows = inl refl }) refl;
         commands = λ plays. record {

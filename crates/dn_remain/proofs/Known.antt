@@ -1,14 +1,12 @@
 -- What is known of a game whose nodes have a history, and of one that opens.
-use Rattle.std.proofs.Common.{◌≡◌, ◌≢◌, ℕ, ◌<◌, ◌≤◌, inl, List, [], ◌∷◌, ◌++◌, length, get_or, take, drop, refl, arith}
-use Rattle.std.specs.Prelude.{◌⊎◌, Bool, true, false, Some, None, slice_get}
-use Rattle.std.proofs.lemmas.Bool.{and_right}
-use Rattle.std.proofs.lemmas.Option.{none-some}
+use Rattle.std.proofs.Common.{◌≡◌, ◌≢◌, ℕ, ◌<◌, ◌≤◌, inl, List, [], ◌∷◌, ◌++◌, length, get_or, take, drop, refl, arith, ◌⊎◌, Bool, true, false, Some, None, slice_get}
+use Rattle.std.proofs.lemmas.{Bool.and_right, Option.none-some}
 use Rattle.dn_tic.specs.declared.command.TicCmd.{TicCmd}
 use Rattle.dn_setup.specs.Settings.{Settings}
 use Rattle.dn_machine.specs.{Flight.Exit, Flight.Flight, Flight.end_of, Node.ends_of, Node.made, Node.is_ended, Node.has_left, Game.Game, Worlds.Rules, Limits.Limits, Game.opening_game}
+use Rattle.dn_remain.specs.Vanished.{Node.Within, Steps.IsRun, Commands.{Holder, past_seen, Had, AreHanded}}
+use Rattle.dn_remain.specs.Wary.{holder_of, now_of, row_had, rows_to}
 use Rattle.dn_machine.specs.Node as machine
-use Rattle.dn_remain.specs.{Vanished.Node.Within, Vanished.Steps.IsRun, Wary.holder_of, Wary.now_of, Wary.row_had, Wary.rows_to}
-use Rattle.dn_remain.specs.Vanished.Commands.{Holder, past_seen, Had, AreHanded}
 
 -- a packet carries a piece of its sender's list, as somebody had it who had not given up the receiver: the sender
 -- itself, or one who had given up nobody but whom the receiver had given up too

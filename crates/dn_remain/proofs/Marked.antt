@@ -1,23 +1,17 @@
 -- What every node's commands, marks and demo are made of, and that calls keep it.
-use Rattle.std.proofs.Common.{◌≡◌, ◌≢◌, ℕ, ℤ, zero, suc, ◌+◌, ◌-◌, ◌<◌, ◌≤◌, refl, sym, ◌∙◌, ap, subst, arith, inl, inr, pos, List, [], ◌∷◌, ◌++◌, length, get_or, take}
-use Rattle.std.specs.Prelude.{false, nat_lt, if◌then◌else◌, Option, Some, fold, Bool, true}
-use Rattle.std.proofs.lemmas.{Bool.cases_eq, List.length_push, List.get_or_append_left, List.get_or_push, List.take-append-le, List.take_all}
-use Rattle.std.proofs.Math.Seq.{take-suc}
+use Rattle.std.proofs.Common.{◌≡◌, ◌≢◌, ℕ, ℤ, zero, suc, ◌+◌, ◌<◌, ◌≤◌, refl, sym, ◌∙◌, ap, arith, List, [], ◌∷◌, ◌++◌, length, get_or, take, false, Option, Some, fold, Bool, true, take-suc}
+use Rattle.std.proofs.lemmas.{List.length_push, List.get_or_append_left, List.get_or_push, List.take-append-le, List.take_all}
 use Rattle.std.proofs.lemmas.Bool.{cond_both, cond-false}
-use Rattle.dn_tic.specs.{declared.command.TicCmd.TicCmd, declared.command.Move.Move, declared.input.Input.Input, Inputs.made_by}
+use Rattle.dn_tic.specs.{declared.{command.{TicCmd.TicCmd, Move.Move}, input.Input.Input}, Inputs.made_by}
 use Rattle.dn_setup.specs.Settings.{Settings}
-use Rattle.dn_machine.specs.declared.answers.Cause.TheVariants as Cause
-use Rattle.dn_machine.specs.declared.answers.Phase.TheVariants.{Ended}
-use Rattle.dn_machine.specs.Sending.{on_build}
-use Rattle.dn_machine.specs.Node.{Node, blank, made, ran, held_at, own_mark, demo_rows}
-use Rattle.dn_machine.specs.Running.{tic_limit}
+use Rattle.dn_machine.specs.{declared.answers.Phase.TheVariants.Ended, Sending.on_build, Running.{tic_limit, on_quit}}
+use Rattle.dn_machine.specs.{Node.{Node, made, ran, held_at, own_mark, demo_rows}, Hearing.on_packet}
 use Rattle.dn_machine.specs.{Running.is_over, Worlds.Rules, Worlds.opening, Worlds.world_after, declared.answers.Heard.Heard, declared.answers.Phase.Phase, Flight.Flight, Limits.Limits, Sending.on_send}
-use Rattle.dn_machine.specs.{Hearing.on_packet, Running.on_quit}
-use Rattle.dn_machine.proofs.{Calls.build_cases, Calls.built, Put.put_at, Calls.send_cases, Calls.quit_cases, Calls.packet_cases, Put.put_off}
+use Rattle.dn_machine.proofs.{Calls.{build_cases, built, send_cases, quit_cases, packet_cases}, Put.{put_at, put_off}}
 use Rattle.dn_remain.specs.Wary.{end_seen, holder_of, Report, Wary, or_fresh, settled, after_news, noted_gone, with_gone, with_report, on_give_up, on_report}
-use Rattle.dn_remain.proofs.{Seeing.over_stays}
-use Rattle.dn_remain.specs.{Vanished.Commands.on_decision, Vanished.Commands.longest, Vanished.Commands.told}
-use Rattle.dn_remain.proofs.Each.{news_cases, give_up_cases, report_cases}
+use Rattle.dn_remain.specs.Vanished.Commands.{on_decision, longest, told}
+use Rattle.dn_remain.proofs.{Seeing.over_stays, Each.{news_cases, give_up_cases, report_cases}}
+use Rattle.dn_machine.specs.declared.answers.Cause.TheVariants as Cause
 
 -- What a call on a node leaves as it was, which is no build and no run.
 
@@ -36,13 +30,7 @@ alike_self me node =
     record { inputs = refl; held = refl; rows = refl; marks = refl; consistent = λ player was should e. e }
 
 alike_joined : (me : ℕ) (a b c : Node) → IsAlike me a b → IsAlike me b c → IsAlike me a c
-alike_joined me a b c h k = record {
-  inputs = k.inputs ∙ h.inputs;
-  held = k.held ∙ h.held;
-  rows = k.rows ∙ h.rows;
-  marks = k.marks ∙ h.marks;
-  consistent = λ player was should e. h.consistent player was should (k.consistent player was should e);
-}
+alike_joined me a b c h k = grind arith
 
 -- in the same phase
 in_the_same : (me : ℕ) (node new : Node) → new.inputs ≡ node.inputs → new.held me ≡ node.held me
@@ -55,13 +43,7 @@ in_phase : (me : ℕ) (node new : Node) → new.inputs ≡ node.inputs → new.h
     → new.rows ≡ node.rows → new.marks ≡ node.marks
     → ((player : ℕ) (was should : ℤ) → new.phase ≢ Ended (Cause.Inconsistent player was should))
     → IsAlike me node new
-in_phase me node new i h r m other = record {
-  inputs = i;
-  held = h;
-  rows = r;
-  marks = m;
-  consistent = λ player was should e. absurd (other player was should e);
-}
+in_phase me node new i h r m other = grind arith
 
 module _ (limits : Limits) (me : ℕ) (node : Node) where
   pub alike_sent : (to : ℕ) → IsAlike me node (on_send limits me node to).0
@@ -82,18 +64,7 @@ module _ (limits : Limits) (me : ℕ) (node : Node) where
         starts = λ s listens kind. in_phase me node _ refl refl refl refl (λ p w s e. cc);
         completes = λ word g all. in_phase me node _ refl refl refl refl (λ p w s e. cc);
         notes = λ word g some. in_the_same me node _ refl refl refl refl refl;
-        commands = λ plays. record {
-          dropped = λ number why. alike_self me node;
-          stale = λ l. in_the_same me node _ refl refl refl refl refl;
-          gap = λ l. in_the_same me node _ refl refl refl refl refl;
-          takes = λ first high. record {
-            inputs = refl;
-            held = put_off node.held flight.from me _ (λ e. apart (sym (to_me ∙ e)));
-            rows = refl;
-            marks = refl;
-            consistent = λ p w s e. e;
-          };
-        };
+        commands = grind (arith, alike_self, in_the_same, put_off);
         requests = λ ended. in_the_same me node _ refl refl refl refl refl;
       })
 
@@ -102,19 +73,11 @@ module _ (limits : Limits) (me : ℕ) (node : Node) where
 
   alike_settled : (gone : ℕ → Bool) (heard : ℕ → Report) → gone me ≡ false
       → IsAlike me node (settled node gone (on_decision limits.players me (holder_of node gone) heard))
-  alike_settled gone heard own = record {
-    inputs = refl;
-    held = cond-false (gone me) (longest limits.players (told me (holder_of node gone) heard me))
-        (node.held me) own;
-    rows = refl;
-    marks = refl;
-    consistent = λ p w s e. e;
-  }
+  alike_settled gone heard own = grind (arith, cond-false, longest, told, holder_of)
 
 module _ (limits : Limits) (me : ℕ) (wary : Wary) where
   alike_news : wary.gone me ≡ false → IsAlike me wary.node (after_news limits me wary).node
-  alike_news own = news_cases limits me wary (λ (w : Wary). IsAlike me wary.node w.node)
-      (alike_self me wary.node)
+  alike_news own = news_cases limits me wary (λ (w : Wary). IsAlike me wary.node w.node) (alike_self me wary.node)
       (λ can. alike_settled limits me wary.node wary.gone (λ player. or_fresh (wary.newest player)) own)
 
 module _ (limits : Limits) (me : ℕ) (wary : Wary) (own : wary.gone me ≡ false) where
@@ -122,8 +85,7 @@ module _ (limits : Limits) (me : ℕ) (wary : Wary) (own : wary.gone me ≡ fals
   alike_give_up player = give_up_cases limits me wary (λ (w : Wary). IsAlike me wary.node w.node) player
       (alike_self me wary.node)
       (λ phase low apart new. alike_joined me wary.node (with_gone limits wary player).node _
-      (alike_noted limits me wary.node player wary.node.phase)
-      (alike_news limits me (with_gone limits wary player)
+      (alike_noted limits me wary.node player wary.node.phase) (alike_news limits me (with_gone limits wary player)
       (put_off wary.gone player me true (λ e. apart (sym e)) ∙ own)))
 
   pub alike_report : (from : ℕ) (report : Report)
@@ -167,27 +129,7 @@ module _ {S : Type 0} (rules : Rules S) (settings : Settings) where
     -- a call that is no build and no run
     pub alike_keeps : (new : Node) → IsAlike me old new
         → ((p e : ℕ) → end_seen old p ≡ Some e → end_seen new p ≡ Some e) → IsMarked rules settings me new
-    alike_keeps new a ends = record {
-      counted = ap (length {A = Input}) a.inputs ∙ (h.counted ∙ sym (ap (length {A = TicCmd}) a.held));
-      own = λ low tic l. ap (λ (cs : List TicCmd). get_or cs tic blank) a.held
-          ∙ (h.own low tic (subst (λ (cs : List TicCmd). tic < length cs) a.held l)
-          ∙ (ap (λ (is : List Input). made_by (take (tic + 1) is) (own_mark old me tic)) (sym a.inputs)
-          ∙ ap (λ (ms : ℕ → ℕ → ℤ). made_by (take (tic + 1) new.inputs) (if nat_lt tic 12 then pos 0 else ms
-          (tic - 12) me))
-          (sym a.marks)));
-      told = λ p tic m l o. ap (λ (ms : ℕ → ℕ → ℤ). ms tic p) a.marks
-          ∙ (h.told p tic m (subst (λ (rows : List (List (Option Move))). tic < length rows) a.rows l)
-          (over_stays (end_seen old p) (end_seen new p) tic (ends p) o)
-          ∙ ap (λ (rows : List (List (Option Move))). rules.physics.mark
-          (world_after rules settings rows tic) p) (sym a.rows));
-      consistent = λ low p w s e. h.consistent low p w s (a.consistent p w s e);
-      room = subst (λ (n : Node). length (demo_rows rules.players n) ≤ rules.capacity) (sym
-          (demo_same new a.rows)) h.room;
-      most = λ c. subst (λ (rows : List (List (Option Move))). length rows ≤ tic_limit) (sym a.rows) (h.most c);
-    }
-      where
-        demo_same : (new : Node) → new.rows ≡ old.rows → record old { rows = new.rows } ≡ old
-        demo_same new e = ap (λ (rows : List (List (Option Move))). record old { rows = rows }) e
+    alike_keeps new a ends = grind (arith, made_by, world_after, over_stays)
 
     -- a build
     pub build_keeps : (input : Input)
@@ -209,27 +151,4 @@ module _ {S : Type 0} (rules : Rules S) (settings : Settings) where
             → ((p e : ℕ) → end_seen old p ≡ Some e → end_seen (built rules.limits me old input) p ≡ Some e)
             → IsMarked rules settings me (built rules.limits me old input)
         builds room ends =
-            let a = ap (length {A = TicCmd}) own_is in
-            let b = length_push (old.held me) (made_by (old.inputs ++ input ∷ []) (own_mark old me
-            (made me old))) in
-            let c = length_push old.inputs input in
-            let d = h.counted in
-            record {
-              counted = omega arith;
-              own = λ low tic l.
-                  ap (λ (cs : List TicCmd). get_or cs tic blank) own_is ∙ elim (cases_eq tic (made me old)) [
-                    | inr n ↦ get_or_append_left (old.held me) _ blank tic (omega arith)
-                        ∙ (h.own low tic (omega arith)
-                        ∙ ap (λ (is : List Input). made_by is (own_mark old me tic))
-                        (sym (take-append-le (tic + 1) old.inputs (input ∷ []) (omega arith))))
-                    | inl e ↦ get_or_push (old.held me) _ blank tic (sym e)
-                        ∙ (ap (λ (i : ℕ). made_by (old.inputs ++ input ∷ []) (own_mark old me i)) (sym e)
-                        ∙ ap (λ (is : List Input). made_by is (own_mark old me tic))
-                        (sym (take_all (tic + 1) (old.inputs ++ input ∷ []) (omega arith))))
-                  ];
-              told = λ p tic m l o. h.told p tic m l
-                  (over_stays (end_seen old p) (end_seen (built rules.limits me old input) p) tic (ends p) o);
-              consistent = h.consistent;
-              room = h.room;
-              most = h.most;
-            }
+            grind (arith, length_push, made_by, get_or_append_left, take-append-le, get_or_push, take_all, over_stays)

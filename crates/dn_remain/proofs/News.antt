@@ -1,16 +1,15 @@
 -- What a node tells, and what it does when it gives up a player, keeps a report, or decides.
-use Rattle.std.proofs.Common.{◌≡◌, ℕ, ◌<◌, refl, sym, ◌∙◌, ap, subst, arith, inl, inr, List, ◌∷◌, length}
-use Rattle.std.specs.Prelude.{true, false, Some}
-use Rattle.std.proofs.lemmas.{Bool.cond_both, Bool.and_right, Bool.true≢false, Option.same_Some}
+use Rattle.std.proofs.Common.{◌≡◌, ℕ, ◌<◌, refl, sym, ◌∙◌, ap, subst, arith, inl, List, ◌∷◌, length, true, false}
+use Rattle.std.proofs.{Common.Some, lemmas.{Bool.{cond_both, and_right, true≢false}, Option.same_Some}}
 use Rattle.dn_tic.specs.declared.command.TicCmd.{TicCmd}
 use Rattle.dn_machine.specs.{declared.answers.Phase.Phase, Limits.Limits, Node.put, Node.got, Node.is_ended, Node.has_left, Worlds.Rules}
-use Rattle.dn_machine.specs.Node as machine
 use Rattle.dn_machine.proofs.Put.{put_at, slice_get_push}
-use Rattle.dn_remain.specs.{Vanished.Commands.Holder, Vanished.Commands.Had}
-use Rattle.dn_remain.specs.Vanished.Steps as step
-use Rattle.dn_remain.specs.Wary.{Report, Wary, report_of, after_news, noted_gone, with_gone, is_in_game, with_report, report_to, reached, rows_to, now_of}
-use Rattle.dn_remain.specs.Remaining.{Telling, Remaining, wary_of, with_wary, with_telling}
+use Rattle.dn_remain.specs.Wary.{Report, Wary, report_of, after_news, noted_gone, with_gone, is_in_game, with_report}
+use Rattle.dn_remain.specs.{Wary.{report_to, reached, rows_to, now_of}, Vanished.Commands.{Holder, Had}}
+use Rattle.dn_remain.specs.Remaining.{Remaining, wary_of, with_wary, with_telling}
 use Rattle.dn_remain.proofs.{Known.Follows, Known.not_left, Following.steps_set, Settling.settles, Each.news_cases, Vanished.Put.at_put, Vanished.Put.own_put, Followed.own_place, Followed.there, Followed.again, Followed.IsFollowed, Followed.AreFollowed, Followed.anchored, Followed.carried}
+use Rattle.dn_machine.specs.Node as machine
+use Rattle.dn_remain.specs.Vanished.Steps as step
 
 -- a report tells all that is seen of its sender
 told_is : (limits : Limits) (me : ℕ) (wary : Wary) (to : ℕ) (report : Report) → report_to limits me wary to ≡ Some report
@@ -42,11 +41,7 @@ module _ {S : Type 0} (known : ℕ → Holder TicCmd → Type 0) (rules : Rules 
       record {
         follows = f.follows;
         newest = f.newest;
-        reports = λ which t h. elim (slice_get_push all.reports (record { from = node; to = to; report = told }) which t h) [
-          | inl old ↦ f.reports which t old
-          | inr new ↦ subst (λ (s : Telling). Had (now_of all.game all.gone ∷ older) s.from s.report) (sym new)
-              (inl (told_is rules.limits node (wary_of all node) to told is))
-        ];
+        reports = grind (arith, slice_get_push, now_of, told_is, wary_of);
       },
     )
 

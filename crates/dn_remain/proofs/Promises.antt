@@ -1,14 +1,12 @@
 -- What a history says of its game.
-use Rattle.std.proofs.Common.{◌≡◌, ℕ, ℤ, ◌+◌, ◌-◌, ◌<◌, pos, take, ltb, refl, sym, ◌∙◌, ap, arith, inl, List, [], ◌∷◌, length, get_or, drop, ◌≤◌, inr}
-use Rattle.std.specs.Prelude.{nat_lt, Some, slice_get, Bool, true, false, Option, None, if◌then◌else◌}
-use Rattle.std.specs.List.{take_while}
+use Rattle.std.proofs.Common.{◌≡◌, ℕ, ℤ, ◌+◌, ◌-◌, ◌<◌, pos, take, ltb, refl, sym, ◌∙◌, ap, arith, inl, List, [], ◌∷◌, length, get_or, drop, ◌≤◌, inr, nat_lt, Some, slice_get, Bool, true, false, Option, None, if◌then◌else◌, take_while}
 use Rattle.std.proofs.lemmas.{Bool.cases_lt, Bool.cond-true, Bool.cond-false, Bool.lt-ltb, Bool.le-ltb, List.get_or-take, List.Folds.length-prefix_len, List.Prefix.front_from_reads, Option.same_Some, Option.slice_get-get_or}
-use Rattle.dn_tic.specs.{declared.command.TicCmd.TicCmd, declared.command.Move.Move, Inputs.made_by}
+use Rattle.dn_tic.specs.{declared.command.{TicCmd.TicCmd, Move.Move}, Inputs.made_by}
 use Rattle.dn_setup.specs.Settings.{Settings}
 use Rattle.dn_machine.specs.{Promise.IsPrefixOf, Worlds.Rules, Worlds.world_after, Running.is_over}
+use Rattle.dn_machine.specs.Node.{Node, blank, held_at, made, own_mark, ran, is_whole, lacks, demo_rows}
 use Rattle.dn_machine.proofs.Demos.{front_each, front_passes, front_short, none_is, seat_is, whole_has}
 use Rattle.dn_machine.proofs.Truth.{lowest_none_each}
-use Rattle.dn_machine.specs.Node.{Node, blank, held_at, made, own_mark, ran, is_whole, lacks, demo_rows}
 use Rattle.dn_remain.specs.{Vanished.Promise.Agree, Vanished.Promise.Fits, Vanished.Promise.lacks_at, Vanished.Commands.Holder, Vanished.Commands.seen, Vanished.Commands.past_seen, Wary.reached, Wary.end_seen}
 use Rattle.dn_remain.specs.{Wary.now_of, Wary.row_had, Remaining.Remaining, Promise.IsPair, Promise.AgreeInPairs, Vanished.Node.Was, Remaining.Telling, Promise.FitsInPairs}
 use Rattle.dn_remain.proofs.{Vanished.Always.always, Vanished.Windows.fits, Vanished.Handing.handed, Vanished.Handing.same_held, Vanished.Always.agree, Seeing.length_rows, Seeing.none_over, Seeing.same_row}
@@ -19,8 +17,7 @@ front_at : (test : List (Option Move) → Bool) (rows : List (List (Option Move)
     → tic < length (take_while test rows) → get_or (take_while test rows) tic [] ≡ get_or rows tic []
 front_at test rows tic l = grind (arith, length-prefix_len, get_or-take)
 
-module _ {S : Type 0} (rules : Rules S) (settings : Settings) (all : Remaining) (older : List (ℕ
-    → Holder TicCmd))
+module _ {S : Type 0} (rules : Rules S) (settings : Settings) (all : Remaining) (older : List (ℕ → Holder TicCmd))
     (h : IsReached rules settings all older) where
   abbrev past : List (ℕ → Holder TicCmd)
   past = now_of all.game all.gone ∷ older
@@ -38,8 +35,7 @@ module _ {S : Type 0} (rules : Rules S) (settings : Settings) (all : Remaining) 
   f = h.followed
 
   agreed : Agree rules.players (past_seen past)
-  agreed = agree rules.players (past_seen past)
-      (always rules.players rules.ahead (past_seen past) f.follows.run)
+  agreed = agree rules.players (past_seen past) (always rules.players rules.ahead (past_seen past) f.follows.run)
 
   fitted : Fits rules.players rules.ahead (past_seen past)
   fitted = fits rules.players rules.ahead (past_seen past) f.follows.run
@@ -47,14 +43,12 @@ module _ {S : Type 0} (rules : Rules S) (settings : Settings) (all : Remaining) 
   long : (q : ℕ) → length ((now q).rows) ≡ ran (node q)
   long q = length_rows (end_seen (node q)) (ran (node q))
 
-  row_at : (q tic : ℕ) → tic < ran (node q) → slice_get (node q).rows tic
-      ≡ Some (row_had rules.limits (now q) tic)
+  row_at : (q tic : ℕ) → tic < ran (node q) → slice_get (node q).rows tic ≡ Some (row_had rules.limits (now q) tic)
   row_at q tic l = slice_get-get_or (node q).rows tic [] l
       ∙ ap (λ (r : List (Option Move)). Some r) (f.follows.rows q tic l)
 
   -- a row of a demo lacks nobody
-  whole_at : (q tic p : ℕ) → tic < length (demo q) → p < rules.players
-      → lacks_at (seen (now q)) tic p ≡ false
+  whole_at : (q tic p : ℕ) → tic < length (demo q) → p < rules.players → lacks_at (seen (now q)) tic p ≡ false
   whole_at q tic p l m =
       let short = front_short (is_whole rules.players) (node q).rows in
       let a = long q in
@@ -158,8 +152,7 @@ module _ {S : Type 0} (rules : Rules S) (settings : Settings) (all : Remaining) 
   }
 
 -- Of each player at most twice the window is unread, and a demo has the room that it needs.
-module _ {S : Type 0} (rules : Rules S) (settings : Settings) (all : Remaining) (older : List (ℕ
-    → Holder TicCmd))
+module _ {S : Type 0} (rules : Rules S) (settings : Settings) (all : Remaining) (older : List (ℕ → Holder TicCmd))
     (h : IsReached rules settings all older) where
   windows : Fits rules.players rules.ahead (past_seen (now_of all.game all.gone ∷ older))
   windows = fitted rules settings all older h
@@ -213,13 +206,11 @@ module _ {S : Type 0} (rules : Rules S) (settings : Settings) (all : Remaining) 
         let a = ran_is flight.to in
         let b = windows.overrun flight.to told.by flight.from (seen told.state) told.receiver here
         (was_seen (now_of all.game all.gone ∷ older) told.by told.state told.had) told.open_to in
-        let c = told.reaches in
-        omega arith;
+        omega (arith, told.reaches);
     told = λ which p t e here.
         let a = ran_is t.to in
         let k = h.told which t e in
-        let b = windows.overrun t.to t.from p (seen t.report) k.0 here (report_was which t e) k.1 in
-        omega arith;
+        omega (arith, windows.overrun t.to t.from p (seen t.report) k.0 here (report_was which t e) k.1);
     untold = λ which p t e l here none.
         let k = h.told which t e in
         windows.unended t.to t.from p (seen t.report) k.0 l here (report_was which t e) k.1 none;

@@ -1,11 +1,10 @@
 -- A game in which nobody was given up is one of the machine's, and a game of the machine is one in which
 -- nobody is given up.
-use Rattle.std.proofs.Common.{◌≡◌, ℕ, refl, sym, ◌∙◌, ap, subst, inl, List, [], ◌∷◌, ◌++◌, arith, inr, map}
-use Rattle.std.specs.Prelude.{Bool, true, false, Option, Some, None}
-use Rattle.std.proofs.lemmas.Bool.{both_ways, cond-false}
+use Rattle.std.proofs.Common.{◌≡◌, ℕ, refl, sym, ◌∙◌, ap, subst, inl, List, [], ◌∷◌, ◌++◌, arith, inr, map, Bool, true}
+use Rattle.std.proofs.{Common.{false, Option, Some, None}, lemmas.Bool.{both_ways, cond-false}}
 use Rattle.dn_setup.specs.Settings.{Settings}
 use Rattle.dn_machine.specs.{declared.events.Event.Event, Game.Game, Game.opening_game, Game.with_node, Limits.Limits, Node.Node, Node.put, Runs.Runs, Worlds.Rules, Flight.Flight, Runs.Leads}
-use Rattle.dn_machine.proofs.{Games.goes_on, Put.put_at, Put.same_functions}
+use Rattle.dn_machine.proofs.{Games.goes_on, Put.{put_at, same_functions}}
 use Rattle.dn_remain.specs.{Vanished.Commands.on_decision, Vanished.Commands.longest, Vanished.Commands.told, Remaining.Remaining, Remaining.opening_remaining, Remaining.wary_of}
 use Rattle.dn_remain.specs.{Remaining.with_wary, declared.events.RemainEvent.RemainEvent, Remaining.is_barred_flight, Remaining.is_barred, declared.events.RemainEvent.TheVariants.Own}
 use Rattle.dn_remain.specs.Wary.{Report, Wary, settled, or_fresh, with_gone, with_report, on_give_up, on_report, holder_of}
@@ -40,12 +39,7 @@ module _ {S : Type 0} (rules : Rules S) where
   pub is_quiet : (settings : Settings) (own : List Event) (game : Game) → Runs rules settings own game
       → (all : Remaining) × RunsRemain rules settings (map Own own) all × NobodyGivenUp all × (all.game ≡ game)
   unfolding opening_remaining
-  is_quiet settings own game runs = (
-    record (opening_remaining settings) { game = game },
-    stays_quiet settings own game runs,
-    (λ node player. refl),
-    refl,
-  )
+  is_quiet settings own game runs = grind (arith, opening_remaining, stays_quiet)
 
 -- a node in its own place
 same_game : (game : Game) (q : ℕ) → with_node game q (game.nodes q) ≡ game
@@ -54,12 +48,7 @@ same_game game q = ap (λ (nodes : ℕ → Node). record game { nodes = nodes })
 -- a decision of nobody changes nothing
 settled_same : (players me : ℕ) (node : Node) (gone : ℕ → Bool) (heard : ℕ → Report) → ((p : ℕ) → gone p ≡ false)
     → settled node gone (on_decision players me (holder_of node gone) heard) ≡ node
-settled_same players me node gone heard h =
-    let held : (on_decision players me (holder_of node gone) heard).held ≡ node.held =
-    same_functions (λ p. cond-false (gone p) (longest players (told me (holder_of node gone) heard p)) (node.held p) (h p)) in
-    let peers : (settled node gone (on_decision players me (holder_of node gone) heard)).peers ≡ node.peers =
-    same_functions (λ p. cond-false (gone p) _ (node.peers p) (h p)) in
-    λ i. record node { held = held i; peers = peers i }
+settled_same players me node gone heard h = grind (arith, same_functions, cond-false, longest)
 
 -- the game stays, and nobody was given up before
 abbrev IsQuiet : Remaining → Remaining → Type 0
@@ -98,8 +87,7 @@ module _ (all : Remaining) (q : ℕ) where
       (λ can h.
       let before : NobodyGivenUp all = gone_before (all.gone q) refl h in (
         before,
-        ap (λ (n : Node). with_node all.game q n)
-            (settled_same limits.players q (all.game.nodes q) (all.gone q)
+        ap (λ (n : Node). with_node all.game q n) (settled_same limits.players q (all.game.nodes q) (all.gone q)
             (λ player. or_fresh ((with_report (wary_of all q) from told).newest player)) (before q)) ∙ same_game all.game q,
       )))
 
@@ -110,10 +98,7 @@ module _ {S : Type 0} (rules : Rules S) (settings : Settings) where
 
   by_quiet : (all next : Remaining) → IsQuiet all next → IsOwn all → IsOwn next
   unfolding IsOwn
-  by_quiet all next quiet before h =
-      let k = quiet h in
-      let own = before k.0 in
-      (own.0, subst (λ (g : Game). Runs rules settings own.0 g) (sym k.1) own.1)
+  by_quiet all next quiet before h = grind (arith, quiet)
 
   by_event : (all next : Remaining) (event : RemainEvent) → NextRemain rules all event next → IsOwn all → IsOwn next
   unfolding IsOwn

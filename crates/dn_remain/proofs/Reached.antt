@@ -1,30 +1,22 @@
 -- What is known of each game that a list of events leads to.
-use Rattle.std.proofs.Common.{◌≡◌, ℕ, ◌<◌, refl, inl, inr, List, ◌∷◌, arith, sym, ap, subst, []}
-use Rattle.std.specs.Prelude.{◌⊎◌, Bool, false, Option, Some, None, slice_get, true, ◌≢◌, if◌then◌else◌}
-use Rattle.std.proofs.lemmas.Bool.{ltb-true, and_parts, both_ways, cond-false, cases_eq, true≢false}
-use Rattle.std.proofs.lemmas.Option.{none-some}
-use Rattle.dn_tic.specs.{declared.command.TicCmd.TicCmd, declared.input.Input.Input}
+use Rattle.std.proofs.Common.{◌≡◌, ℕ, ◌<◌, refl, inl, inr, List, ◌∷◌, arith, sym, ap, subst, [], ◌⊎◌, Bool, false, Option, Some, None, slice_get, true, ◌≢◌, if◌then◌else◌}
+use Rattle.std.proofs.lemmas.{Bool.{ltb-true, and_parts, both_ways, cond-false, cases_eq, true≢false}, Option.none-some}
+use Rattle.dn_tic.specs.declared.{command.TicCmd.TicCmd, input.Input.Input}
 use Rattle.dn_setup.specs.Settings.{Settings}
-use Rattle.dn_machine.specs.declared.events.Event.{Event}
-use Rattle.dn_machine.specs.Sending.{on_build}
-use Rattle.dn_machine.specs.Flight.{Flight}
-use Rattle.dn_machine.specs.Node.{Node, put}
-use Rattle.dn_machine.specs.Worlds.{Rules}
-use Rattle.dn_machine.specs.Sparing.{on_run_but}
-use Rattle.dn_machine.specs.Game.{Game, with_node, own_marks, posted}
-use Rattle.dn_machine.specs.{Game.refused_at, Game.refused, Game.delivered, Game.on_event, Limits.Limits, Node.got, declared.answers.Phase.TheVariants.Listening, declared.answers.Phase.TheVariants.Gathering}
-use Rattle.dn_machine.specs.{declared.answers.Phase.TheVariants.Ended, declared.answers.Cause.Cause, Game.opening_game}
-use Rattle.dn_machine.proofs.{Games.passes}
-use Rattle.dn_machine.specs.Node as machine
-use Rattle.dn_machine.proofs.Put.{slice_get_push, put_off, put_at}
-use Rattle.dn_remain.specs.{Vanished.Commands.Holder, Vanished.Commands.seen, Vanished.Commands.past_seen, Wary.now_of, Remaining.Remaining, Remaining.wary_of, Remaining.NextRemain}
-use Rattle.dn_remain.specs.{declared.events.RemainEvent.RemainEvent, Wary.end_seen, Remaining.with_wary, Remaining.after_event, Wary.Report, Wary.Wary, Wary.can_settle, Wary.after_news, Wary.with_gone}
-use Rattle.dn_remain.specs.{Wary.with_report, Wary.on_give_up, Wary.on_report, Vanished.Commands.Had, Remaining.opening_remaining, Remaining.LeadsRemain, Remaining.RunsRemain, Wary.report_to}
-use Rattle.dn_remain.specs.{Remaining.Telling}
+use Rattle.dn_machine.specs.Game.{Game, with_node, own_marks, posted, opening_game, refused_at, refused, delivered}
+use Rattle.dn_machine.specs.{Game.on_event, declared.answers.Phase.TheVariants.{Ended, Listening, Gathering}}
+use Rattle.dn_machine.specs.{declared.{answers.Cause.Cause, events.Event.Event}, Node.{Node, put, got}, Flight.Flight}
+use Rattle.dn_machine.specs.{Sparing.on_run_but, Sending.on_build, Limits.Limits, Worlds.Rules}
+use Rattle.dn_machine.proofs.{Games.passes, Put.{slice_get_push, put_off, put_at}}
+use Rattle.dn_remain.specs.Wary.{now_of, end_seen, Report, Wary, can_settle, after_news, with_gone, with_report}
+use Rattle.dn_remain.specs.{Wary.{on_give_up, on_report, report_to}, Vanished.Commands.{Holder, seen, past_seen, Had}}
+use Rattle.dn_remain.specs.Remaining.{Remaining, wary_of, NextRemain, with_wary, after_event, opening_remaining}
+use Rattle.dn_remain.specs.{Remaining.{LeadsRemain, RunsRemain, Telling}, declared.events.RemainEvent.RemainEvent}
 use Rattle.dn_remain.proofs.{Vanished.Always.always, Marked.IsAlike, Marked.alike_sent, Marked.alike_quit, Marked.alike_heard, Marked.alike_give_up, Marked.alike_report, Each.IsNoRun, Each.each_event}
 use Rattle.dn_remain.proofs.{Each.each_remain, Followed.IsFollowed, Followed.named, Answering.settled_at, Each.give_up_cases, Each.report_cases, Followed.there, Seeing.reached_some, Vanished.Handing.was_seen}
 use Rattle.dn_remain.proofs.{Vanished.Invariant.IsKept, Followed.AreFollowed, Followed.anchored, Marked.IsMarked, Marked.alike_keeps, Marked.build_keeps, RunMarks.run_keeps, Settings.AreSet, Followed.own_place}
-use Rattle.dn_remain.proofs.{Followed.owns, News.tells, News.news_there, News.here, News.noted, News.gives, News.keeps}
+use Rattle.dn_remain.proofs.{Followed.owns, News.{tells, news_there, here, noted, gives, keeps}}
+use Rattle.dn_machine.specs.Node as machine
 use Rattle.dn_remain.proofs.Known
 use Rattle.dn_remain.proofs.Settings
 
@@ -74,12 +66,6 @@ module _ {S : Type 0} (known : ℕ → Holder TicCmd → Type 0) (rules : Rules 
         (λ node to low report is. tells known rules all older f node to report is)
         (λ which t e none. hears_report t (named known rules all older f t.to none) (f.reports which t e))
 
-  followed_to : (events : List RemainEvent) (all last : Remaining) → AreFollowed known rules all → LeadsRemain rules all events last
-      → AreFollowed known rules last
-  followed_to [] all last have same = subst (λ (r : Remaining). AreFollowed known rules r) (sym same) have
-  followed_to (event ∷ events) all last have way =
-      followed_to events way.0 last (followed_after all have.0 have.1 event way.0 way.1) way.2
-
 pub followed_at_first : {S : Type 0} (rules : Rules S) (settings : Settings)
     → IsFollowed Known.known rules (opening_remaining settings) []
 unfolding opening_remaining
@@ -88,11 +74,6 @@ followed_at_first rules settings = record {
   newest = λ q r report h. absurd (none-some report h);
   reports = λ which t h. absurd (none-some t h);
 }
-
-pub follow_all : {S : Type 0} (rules : Rules S) (settings : Settings) (events : List RemainEvent) (all : Remaining)
-    → RunsRemain rules settings events all → AreFollowed Known.known rules all
-follow_all rules settings events all run =
-    followed_to Known.known rules events (opening_remaining settings) all ([], followed_at_first rules settings) run
 
 -- Each event changes one node at most: by a build, a run, or a call that leaves what it made and ran.
 
@@ -114,21 +95,12 @@ module _ {S : Type 0} {known : ℕ → Holder TicCmd → Type 0} {rules : Rules 
     {older : List (ℕ → Holder TicCmd)} (f : IsFollowed known rules all older) where
   own_gone : (q : ℕ) → all.gone q q ≡ false
   own_gone q = ((always rules.players rules.ahead (past_seen
-      (now_of all.game all.gone ∷ older)) f.follows.run).sound q
-      (seen (now_of all.game all.gone q)) (inl refl)).own
+      (now_of all.game all.gone ∷ older)) f.follows.run).sound q (seen (now_of all.game all.gone q)) (inl refl)).own
 
   delivers : (o : Option Flight) (which : ℕ) → slice_get all.game.flights which ≡ o
       → IsChange rules all (delivered rules all.game o).0
   delivers None which h = inl refl
-  delivers (Some flight) which h =
-      let told = f.follows.flights which flight h in
-      inr (
-        flight.to,
-        told.receiver,
-        _,
-        refl,
-        inl (alike_heard rules.limits flight.to (all.game.nodes flight.to) flight refl told.apart),
-      )
+  delivers (Some flight) which h = grind (arith, f.follows.flights which flight h, alike_heard)
 
   -- a call of a node
   calls : (node : ℕ) → refused_at rules.players all.game node ≡ None → (new : Node)
@@ -219,8 +191,7 @@ module _ {S : Type 0} (rules : Rules S) (settings : Settings) where
     later = followed_after (Had (now_of all.game all.gone ∷ older)) rules all older now event next step
 
     kept : IsKept rules.players (past_seen (now_of next.game next.gone ∷ later.0))
-    kept = always rules.players rules.ahead (past_seen
-        (now_of next.game next.gone ∷ later.0)) later.1.follows.run
+    kept = always rules.players rules.ahead (past_seen (now_of next.game next.gone ∷ later.0)) later.1.follows.run
 
     -- a known end stays, and so does the count up to it
     ends : (x p e : ℕ) → end_seen (all.game.nodes x) p ≡ Some e
@@ -237,11 +208,9 @@ module _ {S : Type 0} (rules : Rules S) (settings : Settings) where
         → IsCalled rules (all.gone q) q (all.game.nodes q) new → IsMarked rules settings q new
     called q mine new still (inl alike) = grind (arith, alike_keeps)
     called q mine new still (inr (inl built)) = subst (λ (n : machine.Node). IsMarked rules settings q n)
-        (sym built.1)
-        (build_keeps rules settings q (all.game.nodes q) (h.marked q) built.0
+        (sym built.1) (build_keeps rules settings q (all.game.nodes q) (h.marked q) built.0
         (λ p e s. subst (λ (n : machine.Node). end_seen n p ≡ Some e) built.1 (still p e s)))
-    called q mine new still (inr (inr ran)) = subst (λ (n : machine.Node). IsMarked rules settings q n)
-        (sym ran)
+    called q mine new still (inr (inr ran)) = subst (λ (n : machine.Node). IsMarked rules settings q n) (sym ran)
         (run_keeps rules settings all.game all.gone older now.follows h.marked q mine
         (λ plays. (h.set.nodes q).played ((h.set.nodes q).plays plays)))
 
@@ -289,3 +258,8 @@ module _ {S : Type 0} (rules : Rules S) (settings : Settings) where
   pub reached_by : (events : List RemainEvent) (all : Remaining) → RunsRemain rules settings events all
       → (older : List (ℕ → Holder TicCmd)) × IsReached rules settings all older
   reached_by events all run = leads events (opening_remaining settings) all [] opens run
+
+pub follow_all : {S : Type 0} (rules : Rules S) (settings : Settings) (events : List RemainEvent) (all : Remaining)
+    → RunsRemain rules settings events all → AreFollowed Known.known rules all
+follow_all rules settings events all run =
+    let known = reached_by rules settings events all run in (known.0, known.1.followed)

@@ -1,13 +1,11 @@
 -- A packet with a command of a third player keeps what is known of a game.
-use Rattle.std.proofs.Common.{◌≡◌, ℕ, zero, suc, ◌<◌, refl, sym, subst, arith, inl, inr, List, [], ◌∷◌, ◌++◌, length, get_or, take, drop}
-use Rattle.std.specs.Prelude.{map, Option, Some, None}
-use Rattle.std.proofs.lemmas.Bool.{true≢false}
+use Rattle.std.proofs.Common.{◌≡◌, ℕ, zero, suc, ◌<◌, refl, sym, subst, arith, inl, inr, List, [], ◌∷◌, ◌++◌, length, get_or, take, drop, map, Option, Some, None, true≢false}
 use Rattle.dn_tic.specs.declared.command.TicCmd.{TicCmd}
 use Rattle.dn_setup.specs.Settings.{Settings}
-use Rattle.dn_machine.specs.{Node.blank, Relaying.relayed, Relaying.with_relayed, Worlds.Rules}
+use Rattle.dn_machine.specs.{Node.blank, Relaying.{relayed, with_relayed}, Worlds.Rules}
 use Rattle.dn_remain.specs.{Vanished.Commands.Holder, Vanished.Commands.Had, Vanished.Node.Within, Remaining.Remaining, Remaining.opening_remaining, Remaining.LeadsRemain, Remaining.RunsRemain, Wary.now_of, declared.events.RemainEvent.RemainEvent, Wary.Report}
 use Rattle.dn_remain.specs.Relaying.{CanRelay, RelayEvent, Own, Relay, NextRelayed, LeadsRelayed, RunsRelayed, told_gone}
-use Rattle.dn_remain.proofs.{Known.IsTold, Reached.IsReached, Reached.goes_on, Reached.opens, Sending.joins, Settings.post_set}
+use Rattle.dn_remain.proofs.{Known.IsTold, Reached.{IsReached, goes_on, opens}, Sending.joins, Settings.post_set}
 
 -- one command of a list is a piece of it
 one_of : (xs : List TicCmd) (tic : ℕ) → tic < length xs → get_or xs tic blank ∷ [] ≡ take 1 (drop tic xs)

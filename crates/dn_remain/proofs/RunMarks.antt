@@ -1,20 +1,16 @@
 -- A run keeps what a node's commands, marks and demo are made of.
-use Rattle.std.proofs.Common.{◌≡◌, ◌≢◌, ℕ, ℤ, ◌+◌, ◌<◌, ◌≤◌, refl, sym, ◌∙◌, ap, arith, inl, inr, ltb, List, [], ◌∷◌, length, get_or, take}
-use Rattle.std.specs.Prelude.{◌&&◌, Bool, true, false, not, if◌then◌else◌, Option, Some, None}
-use Rattle.std.specs.List.{prefix_len, take_while}
-use Rattle.std.specs.Option.{option_map}
+use Rattle.std.proofs.Common.{◌≡◌, ◌≢◌, ℕ, ℤ, ◌+◌, ◌<◌, ◌≤◌, refl, sym, ◌∙◌, ap, arith, inl, inr, List, [], ◌∷◌, length, get_or, Bool, true, false, if◌then◌else◌, Option, Some, None, option_map}
 use Rattle.std.proofs.lemmas.{Bool.both_ways, Bool.cases_lt, Bool.cond-true, Bool.cond-false, Bool.and_from, Bool.lt-ltb, Bool.le-ltb, List.length_push, List.take-append-le, List.Folds.length-prefix_len, List.Sums.prefix_len_stops, Option.none-some}
-use Rattle.dn_tic.specs.{declared.command.TicCmd.TicCmd, declared.command.Move.Move, Inputs.made_by}
+use Rattle.std.specs.List.{prefix_len, take_while}
+use Rattle.dn_tic.specs.{declared.command.{TicCmd.TicCmd, Move.Move}, Inputs.made_by}
 use Rattle.dn_setup.specs.Settings.{Settings}
 use Rattle.dn_machine.specs.{declared.answers.Cause.Cause, declared.answers.Phase.TheVariants.Playing, Game.Game, Game.own_marks, Node.blank, Node.held_at, Node.own_mark, Node.is_whole, Node.demo_rows, Worlds.Rules, Worlds.mark_in, Worlds.world_after}
+use Rattle.dn_machine.specs.{Running.{tic_limit, full_at, is_absent, row_held, marks_kept, is_over}, Sparing.on_run_but}
+use Rattle.dn_machine.proofs.{Calls.ended_by, Calls.ran_on, Demos.front_short, Demos.front_stops, Demos.whole_more, Put.put_at, Put.put_off}
+use Rattle.dn_remain.specs.{Vanished.Commands.{Holder, Had, seen, past_seen}, Wary.{end_seen, now_of}}
+use Rattle.dn_remain.proofs.{Vanished.Windows.roomy, Each.run_but_cases, Checks.none_off, Known.Follows, Marked.IsMarked, Marked.world_same, Running.absent_is, Seeing.length_rows, Seeing.none_over, Seeing.over_before}
 use Rattle.dn_machine.specs.declared.answers.Cause.TheVariants as failed
 use Rattle.dn_machine.specs.Node as machine
-use Rattle.dn_machine.specs.Running.{tic_limit, full_at, is_absent, row_held, marks_kept, is_over}
-use Rattle.dn_machine.specs.Sparing.{on_run_but}
-use Rattle.dn_machine.proofs.{Calls.ended_by, Calls.ran_on, Demos.front_short, Demos.front_stops, Demos.whole_more, Put.put_at, Put.put_off}
-use Rattle.dn_remain.specs.Vanished.Commands.{Holder, Had, seen, past_seen}
-use Rattle.dn_remain.proofs.{Vanished.Windows.roomy, Each.run_but_cases, Checks.none_off, Known.Follows, Marked.IsMarked, Marked.world_same, Running.absent_is, Seeing.length_rows, Seeing.none_over, Seeing.over_before}
-use Rattle.dn_remain.specs.Wary.{end_seen, now_of}
 
 -- where all pass, the front is the whole
 all_front : {A : Type 0} (test : A → Bool) (xs : List A) (d : A)
@@ -27,8 +23,7 @@ all_front test xs d h =
     ]
 
 module _ {S : Type 0} (rules : Rules S) (settings : Settings) (game : Game) (gone : ℕ → ℕ → Bool)
-    (older : List (ℕ → Holder TicCmd))
-    (follows : Follows (Had (now_of game gone ∷ older)) rules game gone older)
+    (older : List (ℕ → Holder TicCmd)) (follows : Follows (Had (now_of game gone ∷ older)) rules game gone older)
     (all_marked : (x : ℕ) → IsMarked rules settings x (game.nodes x)) (q : ℕ) (mine : q < rules.players)
     (set : (game.nodes q).phase ≡ Playing → (game.nodes q).settings ≡ Some settings) where
   abbrev me : machine.Node
@@ -63,10 +58,7 @@ module _ {S : Type 0} (rules : Rules S) (settings : Settings) (game : Game) (gon
       ≡ rules.physics.mark (world_after rules settings me.rows tic) p
   told_now plays p l over =
       let here : is_absent me p ≡ false = absent_is follows q mine p l ∙ over in
-      cond-true (ltb p rules.players && not (is_absent me p)) _ _
-      (and_from (ltb p rules.players) (not (is_absent me p)) (lt-ltb p rules.players l) (ap not here)) ∙ ap
-      (λ (o : Option Settings). mark_in rules.physics (option_map (λ s. world_after rules s me.rows tic) o) p)
-      (set plays)
+      grind (arith, cond-true, is_absent, and_from, lt-ltb, mark_in, option_map, world_after)
 
   long : length new.rows ≡ tic + 1
   long = length_push me.rows row
@@ -78,8 +70,7 @@ module _ {S : Type 0} (rules : Rules S) (settings : Settings) (game : Game) (gon
       (λ p. if is_absent me p then None else Some (held_at me p tic))
       (λ p. if is_over (end_seen me p) k then None else Some (get_or (me.held p) k blank))
       (λ p m here. none_over (is_over (end_seen me p) k) _ ∙ over_before (end_seen me p) k tic (omega arith)
-      (sym (absent_is follows q mine p m) ∙ (sym (none_over (is_absent me p) (held_at me p tic)) ∙ here)))
-      whole)
+      (sym (absent_is follows q mine p m) ∙ (sym (none_over (is_absent me p) (held_at me p tic)) ∙ here))) whole)
 
   module _ (free : tic ≢ full_at rules.limits row) where
     room_kept : (whole : Bool) → is_whole rules.players row ≡ whole
@@ -93,15 +84,7 @@ module _ {S : Type 0} (rules : Rules S) (settings : Settings) (game : Game) (gon
         let a = (roomy rules.players rules.ahead (past_seen (now_of game gone ∷ older)) follows.run).own q
         (seen (now_of game gone q)) (inl refl) in
         let b = length_rows (end_seen me) tic in
-        record {
-          counted = (all_marked q).counted;
-          own = λ low t l. (all_marked q).own low t l
-              ∙ ap (λ (z : ℤ). made_by (take (t + 1) me.inputs) z) (mark_stays t (omega arith));
-          told = grind (arith, long, put_off, world_stays, put_at, told_now);
-          consistent = (all_marked q).consistent;
-          room = rooms.0;
-          most = rooms.1;
-        }
+        grind (arith, made_by, mark_stays, long, put_off, world_stays, put_at, told_now)
 
   pub run_keeps : IsMarked rules settings q (on_run_but rules.limits (gone q) me (own_marks rules me)).0
   run_keeps = run_but_cases rules.limits q (gone q) me (own_marks rules me)

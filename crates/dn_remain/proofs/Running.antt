@@ -1,16 +1,13 @@
 -- A run runs a tic, ends a node, or changes nothing; and a quit ends one.
-use Rattle.std.proofs.Common.{◌≡◌, ℤ, ℕ, suc, ◌<◌, leb, refl, sym, ◌∙◌, ap, arith, inl, inr, List, [], ◌∷◌, ◌++◌, length}
-use Rattle.std.specs.Prelude.{Bool, true, false, not, ◌&&◌, if◌then◌else◌, Option, None, Some}
-use Rattle.std.proofs.lemmas.{Bool.cases_Bool, Bool.leb-false, Bool.lt-leb, List.length_push}
-use Rattle.dn_tic.specs.{declared.command.TicCmd.TicCmd, declared.command.Move.Move}
+use Rattle.std.proofs.Common.{◌≡◌, ℤ, ℕ, suc, ◌<◌, leb, refl, sym, ◌∙◌, ap, arith, inl, inr, List, [], ◌∷◌, ◌++◌, length, Bool, true, false, not, ◌&&◌, if◌then◌else◌, Option, None, Some}
+use Rattle.std.proofs.lemmas.{Bool.{cases_Bool, leb-false, lt-leb}, List.length_push}
+use Rattle.dn_tic.specs.declared.command.{TicCmd.TicCmd, Move.Move}
 use Rattle.dn_machine.specs.{declared.answers.Cause.Cause, declared.answers.Phase.TheVariants.Playing, declared.answers.Phase.TheVariants.Ended, Node.ends_of, Node.got, Node.held_at, Node.is_ended, Node.lowest, Game.Game, Game.with_node, Worlds.Rules}
-use Rattle.dn_machine.specs.Node as machine
-use Rattle.dn_machine.specs.Running.{is_absent, is_awaited, row_held, on_quit, is_over}
-use Rattle.dn_machine.specs.Sparing.{on_run_but}
-use Rattle.dn_machine.proofs.Calls.{ran_on, quit_cases}
-use Rattle.dn_machine.proofs.Truth.{lowest_none_each, row_of_same}
+use Rattle.dn_machine.specs.{Running.{is_absent, is_awaited, row_held, on_quit, is_over}, Sparing.on_run_but}
+use Rattle.dn_machine.proofs.{Calls.{ran_on, quit_cases}, Truth.{lowest_none_each, row_of_same}}
 use Rattle.dn_remain.specs.{Vanished.Steps.Run, Vanished.Steps.Leave, Vanished.Commands.Holder, Vanished.Commands.seen, Vanished.Commands.past_seen, Wary.end_seen, Wary.rows_to, Wary.holder_of, Wary.now_of, Wary.row_had}
 use Rattle.dn_remain.proofs.{Vanished.Invariant.IsKept, Vanished.Always.always, Vanished.Stepping.cases_Option, Seeing.same_node, Seeing.same_holder, Seeing.length_rows, Seeing.reached_cases, Each.run_but_cases, Known.Follows, Known.IsFit, Known.Went, Known.fit_self, Known.not_left, Following.stays, Following.steps}
+use Rattle.dn_machine.specs.Node as machine
 
 module _ {S : Type 0} {known : ℕ → Holder TicCmd → Type 0} {rules : Rules S} {game : Game} {gone : ℕ → ℕ → Bool}
     {older : List (ℕ → Holder TicCmd)} (follows : Follows known rules game gone older) (q : ℕ) (mine : q < rules.players) where
@@ -52,14 +49,10 @@ module _ {S : Type 0} {known : ℕ → Holder TicCmd → Type 0} {rules : Rules 
     | inl none ↦
         let rows = length_rows (end_seen me) (machine.ran me) in
         let a = (kept.sound q (seen (now_of game gone q)) (inl refl)).ahead p l none.0 in
-        elim (cases_Option (ends_of me p)) [
-          | inl e ↦ ap (λ (o : Option ℕ). is_over o (machine.ran me)) (e ∙ sym none.0)
-          | inr e ↦ grind (arith, lt-leb)
-        ]
+        grind (arith, cases_Option, ends_of, is_over, machine.ran, lt-leb)
   ]
 
-  module _ (plays : me.phase ≡ Playing)
-      (nobody : lowest rules.players (is_awaited me) ≡ None) (marks : ℕ → ℤ) where
+  module _ (plays : me.phase ≡ Playing) (nobody : lowest rules.players (is_awaited me) ≡ None) (marks : ℕ → ℤ) where
     abbrev next : machine.Node
     next = ran_on rules.limits q me marks
 
@@ -73,8 +66,7 @@ module _ {S : Type 0} {known : ℕ → Holder TicCmd → Type 0} {rules : Rules 
         let none : is_awaited me p ≡ false = lowest_none_each rules.players (is_awaited me) nobody p l in
         let late : leb (got me p) (machine.ran me) ≡ false =
         sym (ap (λ (b : Bool). not b && leb (got me p) (machine.ran me)) present) ∙ none in
-        let a = leb-false (got me p) (machine.ran me) late in
-        omega arith
+        omega (arith, leb-false (got me p) (machine.ran me) late)
 
     -- the row that is run is that of what is seen
     row_is : next.rows ≡ me.rows ++ row_had rules.limits (holder_of next (gone q)) (machine.ran me) ∷ []

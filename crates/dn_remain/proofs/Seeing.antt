@@ -1,20 +1,13 @@
 -- What is seen of nodes; and that rows of it stay as they are.
-use Rattle.std.proofs.Common.{◌≡◌, ℕ, zero, suc, ◌+◌, ◌-◌, ◌≤◌, refl, sym, ◌∙◌, ap, arith, List, [], ◌∷◌, ◌++◌, length, take, drop, ◌<◌, leb, inl, inr, get_or}
-use Rattle.std.proofs.lemmas.List.{drop-take, drop-drop, length_push}
-use Rattle.std.proofs.Math.Seq.{take-append_seam, take-add}
-use Rattle.std.specs.Prelude.{◌⊎◌, Bool, true, false, if◌then◌else◌, Option, Some, None}
-use Rattle.std.specs.Option.{is_none}
-use Rattle.std.proofs.lemmas.Bool.{both_ways, le-leb, leb-true, lt-leb, cond-true, cond-false}
-use Rattle.std.proofs.lemmas.Option.{none-some, same_Some}
-use Rattle.std.proofs.lemmas.{Bool.cases_Bool, List.get_or_append_left, List.get_or_push, Option.slice_get-get_or}
-use Rattle.dn_tic.specs.declared.command.TicCmd.{TicCmd}
-use Rattle.dn_tic.specs.{declared.command.Move.Move}
-use Rattle.dn_machine.proofs.Put.{same_functions}
-use Rattle.dn_machine.specs.Running.{is_over}
-use Rattle.dn_machine.specs.{Limits.Limits, Node.blank}
-use Rattle.dn_machine.proofs.Truth.{row_of_same}
-use Rattle.dn_remain.specs.{Vanished.Node.Node, Wary.reached, Wary.rows_to, Vanished.Node.Was, Vanished.Node.ran, Vanished.Promise.lacks_at, Vanished.Steps.IsRun, Wary.row_had}
-use Rattle.dn_remain.specs.Vanished.Commands.{seen, Holder, past_seen, Had, AreHanded}
+use Rattle.std.proofs.Common.{◌≡◌, ℕ, zero, suc, ◌+◌, ◌-◌, ◌≤◌, refl, sym, ◌∙◌, ap, arith, List, [], ◌∷◌, ◌++◌, length, take, drop, ◌<◌, leb, inl, inr, get_or, ◌⊎◌, Bool, true, false, if◌then◌else◌, Option, Some, None, is_none}
+use Rattle.std.proofs.lemmas.List.{drop-take, drop-drop, length_push, get_or_append_left, get_or_push}
+use Rattle.std.proofs.lemmas.Bool.{both_ways, le-leb, leb-true, lt-leb, cond-true, cond-false, cases_Bool}
+use Rattle.std.proofs.{lemmas.Option.{none-some, same_Some, slice_get-get_or}, Math.Seq.{take-append_seam, take-add}}
+use Rattle.dn_tic.specs.declared.command.{TicCmd.TicCmd, Move.Move}
+use Rattle.dn_machine.proofs.{Put.same_functions, Truth.row_of_same}
+use Rattle.dn_machine.specs.{Running.is_over, Limits.Limits, Node.blank}
+use Rattle.dn_remain.specs.Vanished.{Commands.{seen, Holder, past_seen, Had, AreHanded}, Node.{Node, Was, ran}}
+use Rattle.dn_remain.specs.{Wary.{reached, rows_to, row_had}, Vanished.{Promise.lacks_at, Steps.IsRun}}
 use Rattle.dn_remain.proofs.{Vanished.Invariant.IsGrown, Vanished.Invariant.IsKept, Vanished.Always.always, Vanished.Handing.same_held, Vanished.Handing.was_seen, Vanished.Handing.row_held}
 
 -- of two states, at whichever nodes, which ran a tic and whose rows lack the same players
@@ -54,8 +47,7 @@ module _ (limits : Limits) (history : List (ℕ → Holder TicCmd)) (handed : Ar
 module _ (limits : Limits) (history : List (ℕ → Holder TicCmd)) (handed : AreHanded history)
     (run : IsRun limits.players limits.ahead (past_seen history)) (q : ℕ) (u v : Holder TicCmd)
     (w : Had history q u) (y : Had history q v) (grown : IsGrown (seen u) (seen v))
-    (olds news : List (List (Option Move))) (long : length u.rows ≡ length olds)
-    (long' : length v.rows ≡ length news)
+    (olds news : List (List (Option Move))) (long : length u.rows ≡ length olds) (long' : length v.rows ≡ length news)
     (before : (tic : ℕ) → tic < length olds → get_or olds tic [] ≡ row_had limits u tic) where
   old_row : (tic : ℕ) → tic < length olds → get_or olds tic [] ≡ row_had limits v tic
   old_row tic l = grind (arith, same_row)
@@ -81,10 +73,7 @@ same_holder a b g e o l r = λ i. record { held = g i; ends = e i; gone = o i; l
 pub length_rows : (ends : ℕ → Option ℕ) (n : ℕ) → length (rows_to ends n) ≡ n
 unfolding rows_to
 length_rows ends zero = refl
-length_rows ends (suc n) =
-    let a = length_push (rows_to ends n) (λ p. is_over (ends p) n) in
-    let b = length_rows ends n in
-    omega arith
+length_rows ends (suc n) = omega (arith, length_push (rows_to ends n) (λ p. is_over (ends p) n), length_rows ends n)
 
 -- rows by ends that come later than the tics
 pub rows_alike : (e f : ℕ → Option ℕ) (n : ℕ)
@@ -95,8 +84,7 @@ rows_alike e f (suc n) h =
     let row : ◌≡◌ {A = ℕ → Bool} (λ p. is_over (e p) n) (λ p. is_over (f p) n) =
     same_functions (λ p. h p n (omega arith)) in
     ap (λ (rows : List (ℕ → Bool)). rows ++ (λ p. is_over (e p) n) ∷ []) (rows_alike e f n (λ p tic l. h p tic
-    (omega arith)))
-    ∙ ap (λ (r : ℕ → Bool). rows_to f n ++ r ∷ []) row
+    (omega arith))) ∙ ap (λ (r : ℕ → Bool). rows_to f n ++ r ∷ []) row
 
 -- an end counts, or not
 pub reached_none : (got e : ℕ) → got < e → reached got (Some e) ≡ None

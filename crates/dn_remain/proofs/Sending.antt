@@ -1,14 +1,12 @@
 -- A packet that is sent carries a piece of what its sender has.
-use Rattle.std.proofs.Common.{◌≡◌, ◌≢◌, ℕ, ◌<◌, ◌≤◌, refl, sym, ◌∙◌, ap, subst, arith, inl, inr, List, ◌∷◌, length, drop}
-use Rattle.std.specs.Prelude.{Bool, true, false, Option, Some, None}
-use Rattle.std.proofs.lemmas.List.{length-take, length-drop}
+use Rattle.std.proofs.Common.{◌≡◌, ◌≢◌, ℕ, ◌<◌, ◌≤◌, refl, sym, ◌∙◌, ap, subst, arith, inl, inr, List, ◌∷◌, length, drop, Bool, true, false, Option, Some, None, length-take, length-drop}
 use Rattle.dn_tic.specs.declared.command.TicCmd.{TicCmd}
 use Rattle.dn_setup.specs.Settings.{Settings}
 use Rattle.dn_machine.specs.{Flight.Kind, Flight.Play, Flight.Exit, Flight.Flight, Limits.Limits, Node.ends_of, Node.made, Node.has_left, Game.Game, Game.with_node, Game.posted, Worlds.Rules, Sending.first_sent}
 use Rattle.dn_machine.specs.{Sending.last_sent, Sending.left_kind, Sending.set_up_flight, Sending.commands_flight, Sending.request_to, Sending.after_sent, Sending.on_send}
-use Rattle.dn_machine.proofs.{Calls.send_cases, Put.slice_get_push, Put.put_at, Put.put_off, Put.same_functions}
-use Rattle.dn_remain.specs.{Vanished.Commands.Holder, Wary.reached, Wary.end_seen, Wary.rows_to, Wary.holder_of, Wary.now_of}
-use Rattle.dn_remain.proofs.{Seeing.take_long, Seeing.same_holder, Known.IsTold, Known.Follows, Known.Went, Known.fit_self, Following.stays}
+use Rattle.dn_machine.proofs.{Calls.send_cases, Put.{slice_get_push, put_at, put_off, same_functions}}
+use Rattle.dn_remain.specs.{Vanished.Commands.Holder, Wary.{reached, end_seen, rows_to, holder_of, now_of}}
+use Rattle.dn_remain.proofs.{Seeing.{take_long, same_holder}, Known.{IsTold, Follows, Went, fit_self}, Following.stays}
 use Rattle.dn_machine.specs.Node as machine
 
 -- a packet joins those that were sent

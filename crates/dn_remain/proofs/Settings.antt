@@ -1,21 +1,14 @@
 -- The key player's settings are everybody's, after every list of events.
-use Rattle.std.proofs.Common.{◌≡◌, ℕ, refl, ap, arith, sym}
-use Rattle.std.specs.Prelude.{Bool, ℤ, true, Option, Some, false, ◌==◌, if◌then◌else◌, None, slice_get}
-use Rattle.std.proofs.lemmas.Bool.{cond_both, true≢false}
-use Rattle.std.proofs.lemmas.Option.{none-some}
+use Rattle.std.proofs.Common.{◌≡◌, ℕ, refl, ap, arith, Bool, ℤ, true, Option, Some, false, if◌then◌else◌}
+use Rattle.std.proofs.{Common.{None, slice_get}, lemmas.{Bool.{cond_both, true≢false}, Option.none-some}}
 use Rattle.dn_setup.specs.Settings.{Settings}
-use Rattle.dn_tic.specs.{declared.input.Input.Input, declared.input.Input.TheVariants.Pressed, declared.input.Input.TheVariants.Given}
-use Rattle.dn_machine.specs.declared.answers.Heard.{Heard}
-use Rattle.dn_machine.specs.declared.answers.Phase.{Phase}
-use Rattle.dn_machine.specs.Flight.{SetUp, Flight}
-use Rattle.dn_machine.specs.Limits.{Limits}
-use Rattle.dn_machine.specs.Node.{Node}
-use Rattle.dn_machine.specs.Sending.{on_build, set_up_flight, on_send}
-use Rattle.dn_machine.specs.{Hearing.on_packet, Running.on_quit, Sparing.on_run_but, declared.answers.Phase.TheVariants.Gathering, declared.answers.Phase.TheVariants.Playing, declared.answers.Phase.TheVariants.Listening}
-use Rattle.dn_machine.specs.{declared.events.Event.Event, Worlds.Rules, declared.events.Event.TheVariants.Build, declared.events.Event.TheVariants.Give, declared.events.Event.TheVariants.Send}
-use Rattle.dn_machine.specs.{declared.events.Event.TheVariants.Deliver, declared.events.Event.TheVariants.Run, declared.events.Event.TheVariants.Quit, declared.events.Event.TheVariants.Stop, Game.Game, Game.opening_game}
-use Rattle.dn_machine.specs.{Game.own_marks, Game.posted, Game.refused, Game.delivered, Game.on_event, Game.with_node}
-use Rattle.dn_machine.proofs.{Calls.build_cases, Calls.send_cases, Calls.quit_cases, Calls.packet_cases, Put.slice_get_push}
+use Rattle.dn_tic.specs.declared.input.Input.{Input, TheVariants.{Pressed, Given}}
+use Rattle.dn_machine.specs.declared.answers.{Heard.Heard, Phase.{Phase, TheVariants.{Gathering, Playing, Listening}}}
+use Rattle.dn_machine.specs.declared.events.Event.{Event, TheVariants.{Build, Give, Send, Deliver, Run, Quit, Stop}}
+use Rattle.dn_machine.specs.{Flight.{SetUp, Flight}, Limits.Limits, Node.Node, Hearing.on_packet, Running.on_quit}
+use Rattle.dn_machine.specs.{Sending.{on_build, set_up_flight, on_send}, Sparing.on_run_but, Worlds.Rules}
+use Rattle.dn_machine.specs.Game.{own_marks, posted, refused, delivered, on_event, with_node, Game, opening_game}
+use Rattle.dn_machine.proofs.{Calls.{build_cases, send_cases, quit_cases, packet_cases}, Put.slice_get_push}
 use Rattle.dn_remain.proofs.{Each.run_but_cases, Each.IsNoRun, Each.each_event, Each.each_remain, Each.news_cases, Each.give_up_cases, Each.report_cases, Vanished.Put.at_put}
 use Rattle.dn_remain.specs.{Wary.Report, Wary.settled, Wary.noted_gone, Vanished.Commands.on_decision, Remaining.Remaining, Remaining.wary_of, Remaining.NextRemain, declared.events.RemainEvent.RemainEvent, Wary.Wary}
 use Rattle.dn_remain.specs.{Wary.report_of, Wary.or_fresh, Wary.after_news, Wary.with_gone, Wary.with_report, Wary.on_give_up, Wary.on_report}
@@ -64,10 +57,7 @@ module _ (settings : Settings) (limits : Limits) (me : ℕ) (node : Node) (h : I
       (h, λ flight e. absurd (none-some flight e))
       (λ other g. (h, λ flight e. carried node.settings (h.gathers g) flight e))
       (λ other plays. (ended_set settings node _ h refl refl (λ g. g) (λ g. g), λ flight e s k. absurd (cc)))
-      (λ other left. (
-        ended_set settings node _ h refl refl (λ g. g) (λ g. g),
-        λ flight e s k. absurd (grind arith),
-      ))
+      (λ other left. (ended_set settings node _ h refl refl (λ g. g) (λ g. g), λ flight e s k. absurd (grind arith)))
     where
       carried : (o : Option Settings) → o ≡ Some settings → (flight : Flight) → set_up_flight me to o ≡ Some flight
           → Carries settings flight
@@ -96,10 +86,7 @@ module _ (settings : Settings) where
     pub flights : (which : ℕ) (flight : Flight) → slice_get game.flights which ≡ Some flight → Carries settings flight
 
   put_set : (game : Game) → AreSet game → (q : ℕ) (new : Node) → IsSet settings new → AreSet (with_node game q new)
-  put_set game a q new h = record {
-    nodes = at_put (λ x n. IsSet settings n) game.nodes q new h (λ x n. a.nodes x);
-    flights = a.flights;
-  }
+  put_set game a q new h = grind (arith, at_put)
 
   pub post_set : (game : Game) → AreSet game → (o : Option Flight)
       → ((flight : Flight) → o ≡ Some flight → Carries settings flight) → AreSet (posted game o).0
@@ -137,11 +124,7 @@ module _ (settings : Settings) where
         (set_build settings rules.limits node (game.nodes node) (a.nodes node) (Pressed keys))
     happens game a (Give node command) none n = put_set game a node _
         (set_build settings rules.limits node (game.nodes node) (a.nodes node) (Given command))
-    happens game a (Send node to) none n =
-        let k = set_sent settings rules.limits node (game.nodes node) (a.nodes node) to in
-        post_set (with_node game node (on_send rules.limits node (game.nodes node) to).0)
-        (put_set game a node (on_send rules.limits node (game.nodes node) to).0 k.0)
-        (on_send rules.limits node (game.nodes node) to).1 k.1
+    happens game a (Send node to) none n = grind (arith, set_sent, post_set, with_node, on_send, put_set)
     happens game a (Deliver which) none n = delivers (slice_get game.flights which) refl
       where
         delivers : (o : Option Flight) → slice_get game.flights which ≡ o → AreSet (delivered rules game o).0
@@ -167,7 +150,4 @@ module _ (settings : Settings) where
 
     pub opens : AreSet (opening_game settings)
     unfolding opening_game
-    opens = record {
-      nodes = λ q. record { gathers = λ e. opened (q == 0) e; played = λ e. absurd (true≢false (sym e)); plays = λ e. absurd (not_playing (q == 0) e) };
-      flights = λ which flight e. absurd (none-some flight e);
-    }
+    opens = grind (arith, opened, true≢false, not_playing, none-some)

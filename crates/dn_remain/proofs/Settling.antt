@@ -1,18 +1,15 @@
 -- A decision of a node is a step.
-use Rattle.std.proofs.Common.{◌≡◌, ℕ, ◌<◌, eqb, refl, sym, ◌∙◌, ap, subst, arith, inl, inr, List, ◌∷◌, length}
-use Rattle.std.specs.Prelude.{Bool, true, false, Option, Some, None}
-use Rattle.std.specs.Option.{option_map}
+use Rattle.std.proofs.Common.{◌≡◌, ℕ, ◌<◌, eqb, refl, sym, ◌∙◌, ap, subst, arith, inl, inr, List, ◌∷◌, length, Bool, true, false, Option, Some, None, option_map}
 use Rattle.std.proofs.lemmas.Bool.{both_ways, cases_Bool, cases_lt, cond-true, cond-false, lt-leb, or_cases, eqb-true, true≢false}
-use Rattle.std.proofs.lemmas.Option.{none-some, same_Some}
-use Rattle.std.proofs.Math.Seq.{take-length}
+use Rattle.std.proofs.{lemmas.Option.{none-some, same_Some}, Math.Seq.take-length}
 use Rattle.dn_tic.specs.declared.command.TicCmd.{TicCmd}
 use Rattle.dn_machine.specs.{declared.peer.Peer.Peer, Game.Game, Game.with_node, Node.ends_of, Node.has_left, Node.put, Worlds.Rules, Running.is_over}
-use Rattle.dn_machine.specs.Node as machine
 use Rattle.dn_machine.proofs.Put.{same_functions}
-use Rattle.dn_remain.specs.{Vanished.Node.Node, Vanished.Node.HasHeard, Vanished.Node.decided, Vanished.Steps.Decide, Wary.reached, Wary.end_seen, Wary.holder_of, Wary.now_of, Wary.Report, Wary.or_fresh, Wary.settled}
-use Rattle.dn_remain.specs.Vanished.Calls.{is_heard, can_decide, report_or, AreTrue}
-use Rattle.dn_remain.specs.Vanished.Commands.{Holder, seen, past_seen, Had, longest, told, on_decision}
+use Rattle.dn_remain.specs.Vanished.{Commands.{Holder, seen, past_seen, Had, longest, told, on_decision}, Steps.Decide}
+use Rattle.dn_remain.specs.Wary.{reached, end_seen, holder_of, now_of, Report, or_fresh, settled}
+use Rattle.dn_remain.specs.Vanished.{Calls.{is_heard, can_decide, report_or, AreTrue}, Node.{Node, HasHeard, decided}}
 use Rattle.dn_remain.proofs.{Vanished.Invariant.IsKept, Vanished.Always.always, Vanished.Deciding.old_ends, Vanished.Handing.was_seen, Vanished.Lists.counts, Vanished.Lists.own_below, Vanished.Lists.pieces, Vanished.Stepping.cases_Option, Vanished.Tests.bounded, Vanished.Tests.every_at, Vanished.Tests.heard_from, Seeing.same_holder, Seeing.length_rows, Seeing.rows_alike, Seeing.reached_some, Known.Follows, Following.steps_set}
+use Rattle.dn_machine.specs.Node as machine
 
 -- what is told, or nothing
 seen_or : (o : Option Report) → report_or (option_map seen o) ≡ seen (or_fresh o)
@@ -80,11 +77,7 @@ module _ {S : Type 0} {known : ℕ → Holder TicCmd → Type 0} {rules : Rules 
       ∙ ap (λ (cs : List TicCmd). Some (length cs)) (sym (cond-true (gone q p) _ (me.held p) t))
 
   end_at : (p : ℕ) → end_seen new p ≡ after.ends p
-  end_at p = elim (cases_Bool (gone q p)) [
-    | inl t ↦ ap (λ (o : Option ℕ). reached (length (after.held p)) o) (end_in p t ∙ longest_is p t)
-        ∙ (reached_some (length (after.held p)) (length (after.held p)) (omega arith) ∙ sym (longest_is p t))
-    | inr f ↦ grind (arith, end_out, cond-false)
-  ]
+  end_at p = grind (arith, reached, end_in, longest_is, reached_some, end_out, cond-false)
 
   counted : seen after ≡ decided rules.players q (seen has) (λ r. seen (or_fresh (newest r)))
   counted = counts rules.players q has heard
@@ -133,8 +126,7 @@ module _ {S : Type 0} {known : ℕ → Holder TicCmd → Type 0} {rules : Rules 
   }) mine here Decide (
     (λ r. seen (or_fresh (newest r))),
     has_heard,
-    ap (λ (h : Holder TicCmd). seen h)
-        holder_is ∙ counted,
+    ap (λ (h : Holder TicCmd). seen h) holder_is ∙ counted,
   ) (inl held_own)
       (λ p n. elim (pieces rules.players q has heard p mine) [
         | inl e ↦ inl e

@@ -1,23 +1,20 @@
 -- No check fails among those who remain, and nothing is dropped but for a reason.
-use Rattle.std.proofs.Common.{◌≡◌, ℕ, ℤ, zero, suc, ◌+◌, ◌<◌, ◌≤◌, refl, sym, ◌∙◌, arith, List, ◌∷◌, length, ◌≢◌, ltb, ap, subst, inl, inr}
-use Rattle.std.specs.Prelude.{◌⊎◌, Bool, true, false, Option, Some, None, slice_get}
-use Rattle.std.specs.Option.{option_map}
-use Rattle.std.proofs.lemmas.{Bool.and_parts, Bool.true≢false, Option.none-some}
-use Rattle.std.proofs.lemmas.Bool.{both_ways, eq-eqb, le-ltb, or_cases}
+use Rattle.std.proofs.Common.{◌≡◌, ℕ, ℤ, zero, suc, ◌+◌, ◌<◌, ◌≤◌, refl, sym, ◌∙◌, arith, List, ◌∷◌, length, ◌≢◌, ltb, ap, subst, inl, inr, ◌⊎◌, Bool, true, false, Option, Some, None, slice_get, option_map}
+use Rattle.std.proofs.lemmas.{Bool.{and_parts, true≢false, both_ways, eq-eqb, le-ltb, or_cases}, Option.none-some}
 use Rattle.dn_tic.specs.declared.command.TicCmd.{TicCmd}
 use Rattle.dn_setup.specs.Settings.{Settings}
 use Rattle.dn_machine.specs.{declared.answers.Ran.TheVariants.Waiting, Limits.Limits, Limits.IsWindow, Node.got, Node.lowest, Running.is_awaited, Running.on_run, Sparing.on_run_but, Worlds.Rules}
 use Rattle.dn_machine.specs.{declared.answers.Heard.Heard, declared.answers.Heard.TheVariants.Dropped, Flight.Flight, Flight.is_exit, Flight.end_of, Node.ends_of, Node.is_ended, Node.has_left}
-use Rattle.dn_machine.specs.{Hearing.is_past_end, Hearing.is_strange_end, Hearing.left_or, Hearing.on_packet}
-use Rattle.dn_machine.specs.Drops as drops
-use Rattle.dn_machine.specs.Node as machine
+use Rattle.dn_machine.specs.Hearing.{is_past_end, is_strange_end, left_or, on_packet}
 use Rattle.dn_machine.proofs.Calls.{Refused, packet_cases}
-use Rattle.dn_remain.specs.{Vanished.Calls.is_newer, Vanished.Node.Within, Wary.now_of, Wary.Report, Wary.Wary, Wary.newest_seen, Wary.can_settle, Wary.on_report, Remaining.Telling, Remaining.Remaining}
-use Rattle.dn_remain.specs.{Remaining.wary_of, Promise.SteadyInPairs, Wary.end_seen, Remaining.heard_of}
-use Rattle.dn_remain.specs.Vanished.Commands.{Holder, Had, seen, past_seen}
+use Rattle.dn_remain.specs.Vanished.{Calls.is_newer, Node.Within, Commands.{Holder, Had, seen, past_seen}}
+use Rattle.dn_remain.specs.Wary.{now_of, Report, Wary, newest_seen, can_settle, on_report, end_seen}
+use Rattle.dn_remain.specs.{Remaining.{Telling, Remaining, wary_of, heard_of}, Promise.SteadyInPairs}
 use Rattle.dn_remain.proofs.{Vanished.Always.always, Vanished.Handing.was_seen, Vanished.Tests.steady, Answering.missing, Each.run_is, Checks.none_off, Checks.none_off_at_all, Followed.anchored}
 use Rattle.dn_remain.proofs.{Known.Follows, Reached.IsReached, Seeing.reached_cases, Vanished.Windows.fits, Arriving.end_is, Arriving.made_it, Arriving.below_made, Known.IsTold, Known.not_left}
-use Rattle.dn_remain.proofs.{Seeing.length_rows}
+use Rattle.dn_remain.proofs.Seeing.{length_rows}
+use Rattle.dn_machine.specs.Drops as drops
+use Rattle.dn_machine.specs.Node as machine
 use Rattle.dn_remain.specs.declared.events.Reported.TheVariants as Reported
 use Rattle.dn_remain.proofs.Known
 
@@ -39,16 +36,14 @@ heard_cases : (limits : Limits) (all : Remaining) (flight : Flight) (number : �
     × ((on_packet limits flight.to (all.game.nodes flight.to) flight).1 ≡ Dropped number))
 heard_cases limits all flight number h = grind arith
 
-module _ {S : Type 0} (rules : Rules S) (settings : Settings) (all : Remaining) (older : List (ℕ
-    → Holder TicCmd))
+module _ {S : Type 0} (rules : Rules S) (settings : Settings) (all : Remaining) (older : List (ℕ → Holder TicCmd))
     (h : IsReached rules settings all older) (window : IsWindow rules.limits) where
   is_anchored : Follows (Had (now_of all.game all.gone ∷ older)) rules all.game all.gone older
   is_anchored = anchored Known.known rules all older h.followed
 
   -- no packet of one who is not given up is an overrun, or ends where it cannot
   module _ (flight : Flight) (told : IsTold rules.players (now_of all.game all.gone ∷ older) flight)
-      (open_from : all.gone flight.to flight.from ≡ false) (here : has_left
-      (all.game.nodes flight.to) ≡ false) where
+      (open_from : all.gone flight.to flight.from ≡ false) (here : has_left (all.game.nodes flight.to) ≡ false) where
     fits_in : end_of flight ≤ machine.ran (all.game.nodes flight.to) + rules.places
     fits_in =
         let a = (fits rules.players rules.ahead (past_seen
@@ -57,11 +52,9 @@ module _ {S : Type 0} (rules : Rules S) (settings : Settings) (all : Remaining) 
         (was_seen (now_of all.game all.gone ∷ older) told.by told.state told.had) told.open_to in
         let b = told.reaches in
         let c = window.twice in
-        let d = length_rows (end_seen (all.game.nodes flight.to)) (machine.ran (all.game.nodes flight.to)) in
-        omega arith
+        omega (arith, length_rows (end_seen (all.game.nodes flight.to)) (machine.ran (all.game.nodes flight.to)))
 
-    last_is : is_exit flight.kind ≡ true → end_of flight ≡ length
-        ((all.game.nodes flight.from).held flight.from)
+    last_is : is_exit flight.kind ≡ true → end_of flight ≡ length ((all.game.nodes flight.from).held flight.from)
     last_is x = (end_is is_anchored told open_from x).3
 
     known_is : (e : ℕ) → ends_of (all.game.nodes flight.to) flight.from ≡ Some e
@@ -87,8 +80,7 @@ module _ {S : Type 0} (rules : Rules S) (settings : Settings) (all : Remaining) 
           (all.game.nodes flight.to) flight.from)) early in
           let a = last_is parts.0 in
           let b = below_made is_anchored told open_from in
-          both_ways _ (le-ltb (end_of flight) (got (all.game.nodes flight.to) flight.from)
-          (omega arith)) parts.1
+          both_ways _ (le-ltb (end_of flight) (got (all.game.nodes flight.to) flight.from) (omega arith)) parts.1
       | inr past ↦ not_past (ends_of (all.game.nodes flight.to) flight.from) refl past
     ]
 
@@ -101,10 +93,8 @@ module _ {S : Type 0} (rules : Rules S) (settings : Settings) (all : Remaining) 
 
   packet_kept : (flight : Flight) → IsTold rules.players (now_of all.game all.gone ∷ older) flight
       → all.gone flight.to flight.from ≡ false → (number : ℕ)
-      → (on_packet rules.limits flight.to (all.game.nodes flight.to) flight).1 ≡ Dropped number
-      → IsDropWord number
-  packet_kept flight told open_from number = packet_cases rules.limits flight.to
-      (all.game.nodes flight.to) flight
+      → (on_packet rules.limits flight.to (all.game.nodes flight.to) flight).1 ≡ Dropped number → IsDropWord number
+  packet_kept flight told open_from number = packet_cases rules.limits flight.to (all.game.nodes flight.to) flight
       (λ (r : machine.Node × Heard). r.1 ≡ Dropped number → IsDropWord number) (record {
         dropped = λ other why e. subst (λ (i : ℕ). IsDropWord i) (same_number other number e) why;
         starts = λ s listens kind e. absurd (cc);
@@ -159,15 +149,13 @@ unfolding lowest
 lowest_passes zero test p h = absurd (none-some p h)
 lowest_passes (suc bound) test p h = grind (arith, lowest_passes bound test)
 
-module _ {S : Type 0} (rules : Rules S) (settings : Settings) (all : Remaining) (older : List (ℕ
-    → Holder TicCmd))
+module _ {S : Type 0} (rules : Rules S) (settings : Settings) (all : Remaining) (older : List (ℕ → Holder TicCmd))
     (h : IsReached rules settings all older) (window : IsWindow rules.limits) where
   follows : Follows (Had (now_of all.game all.gone ∷ older)) rules all.game all.gone older
   follows = anchored Known.known rules all older h.followed
 
   narrow : (q : ℕ) (marks : ℕ → ℤ) → q < rules.players → rules.ahead + rules.ahead ≤ 12
-      → on_run_but rules.limits (all.gone q) (all.game.nodes q) marks ≡ on_run rules.limits
-      (all.game.nodes q) marks
+      → on_run_but rules.limits (all.gone q) (all.game.nodes q) marks ≡ on_run rules.limits (all.game.nodes q) marks
   narrow q marks mine low = run_is rules.limits q (all.gone q) (all.game.nodes q) marks (λ plays nobody.
       none_off rules settings all.game all.gone older follows h.marked window.back q mine plays nobody
       ∙ sym (none_off_at_all rules settings all.game all.gone older follows h.marked window.back q mine plays

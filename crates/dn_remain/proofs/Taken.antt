@@ -1,14 +1,13 @@
 -- What is decided can be taken.
-use Rattle.std.proofs.Common.{◌≡◌, ℕ, ◌+◌, ◌<◌, ◌≤◌, refl, sym, ◌∙◌, ap, subst, arith, inl, inr, List, ◌∷◌, length, drop}
-use Rattle.std.specs.Prelude.{true, false, Some}
-use Rattle.std.proofs.lemmas.Bool.{both_ways, cond-true}
+use Rattle.std.proofs.Common.{◌≡◌, ℕ, ◌+◌, ◌<◌, ◌≤◌, refl, sym, ◌∙◌, ap, subst, arith, inl, inr, List, ◌∷◌, length}
+use Rattle.std.proofs.{Common.{drop, true, false, Some}, lemmas.Bool.{both_ways, cond-true}}
 use Rattle.dn_tic.specs.declared.command.TicCmd.{TicCmd}
-use Rattle.dn_machine.specs.{Game.with_node, Node.put, Node.ran, Node.has_left, Promise.IsPrefixOf, Worlds.Rules}
-use Rattle.dn_machine.specs.Node as machine
+use Rattle.dn_machine.specs.{Game.with_node, Node.{put, ran, has_left}, Promise.IsPrefixOf, Worlds.Rules}
 use Rattle.dn_machine.proofs.Put.{put_at, put_off}
 use Rattle.dn_remain.specs.Vanished.Commands.{Holder, Had, seen, past_seen, longest, told, on_decision}
 use Rattle.dn_remain.specs.{Wary.end_seen, Wary.now_of, Wary.Report, Wary.Wary, Wary.or_fresh, Wary.can_settle, Wary.settled, Remaining.Remaining, Remaining.wary_of, Remaining.with_wary, Promise.CanBeTaken}
 use Rattle.dn_remain.proofs.{Vanished.Always.always, Vanished.Lists.begins, Vanished.Windows.fits, Vanished.Handing.handed, Vanished.Invariant.IsKept, Vanished.Lists.own_below, Followed.IsFollowed, Followed.AreFollowed, Followed.anchored, Known.Follows, Followed.there, Seeing.length_rows, Settling.settles}
+use Rattle.dn_machine.specs.Node as machine
 use Rattle.dn_remain.proofs.Known
 
 module _ {S : Type 0} (known : ℕ → Holder TicCmd → Type 0) (rules : Rules S) (all : Remaining)
@@ -50,9 +49,7 @@ module _ {S : Type 0} (known : ℕ → Holder TicCmd → Type 0) (rules : Rules 
       let a = (fits rules.players rules.ahead (past_seen (later ∷ past))
       went.run).unread q p (seen (later q)) mine (inl refl) in
       let b = length_rows (end_seen (put all.game.nodes q after q)) (ran (put all.game.nodes q after q)) in
-      let c = ap (λ (n : machine.Node). length (n.held p)) node_is in
-      let d = ap (λ (n : machine.Node). ran n) node_is in
-      omega arith
+      omega (arith, ap (λ (n : machine.Node). length (n.held p)) node_is, ap (λ (n : machine.Node). ran n) node_is)
 
   made : (p : ℕ) → all.gone q p ≡ true → IsPrefixOf (after.held p) ((all.game.nodes p).held p)
   made p t = subst (λ (n : machine.Node). IsPrefixOf (after.held p) (n.held p))

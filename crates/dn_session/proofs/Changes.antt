@@ -1,11 +1,11 @@
 -- What a call changes of a seat: when it was heard, and where its holder is.
-use Rattle.std.proofs.Common.{◌≡◌, ◌≢◌, ◌≤◌, ◌+◌, ℕ, zero, suc, List, [], ◌∷◌, get_or, set, max, refl, ap, sym, subst, ◌∙◌, arith, Option, Some, None, Result, Ok, Err, inl, inr, ◌⊎◌, true, false}
-use Rattle.std.specs.Prelude.{position, slice_index_or, nat_le}
+use Rattle.std.proofs.Common.{◌≡◌, ◌≢◌, ◌≤◌, ℕ, zero, suc, List, [], ◌∷◌, get_or, set, max, refl, ap, sym, subst, ◌∙◌, arith, Option, Some, None, Result, Ok, Err, inl, inr, ◌⊎◌, true, false}
+use Rattle.std.specs.Prelude.{position, slice_index_or}
 use Rattle.std.specs.Str.{bytes_eq}
-use Rattle.std.proofs.lemmas.Bool.{and_parts, both_ways, cases_Bool, cases_lt, leb-true}
+use Rattle.std.proofs.lemmas.Bool.{and_parts, both_ways, leb-true}
 use Rattle.std.proofs.lemmas.Slice.Eq.{bytes_eq-Decides}
-use Rattle.dn_session.specs.{Cookies.cookie_of, Cookies.fresh_for, Cookies.is_good, Cookies.is_recent, Cookies.time_of, Hosting.HearsCall, Hosting.Lobby, Hosting.WasHeard, Hosting.filled_by}
-use Rattle.dn_session.specs.{Hosting.on_call, Hosting.on_opened, Hosting.seated, Reading.IsCallIn, Seats.held_again, Seats.is_here, Seats.is_of, Seats.seat_of, Seats.taken_again, Seats.taken_by}
+use Rattle.dn_session.specs.{Cookies.is_good, Cookies.is_recent, Cookies.time_of, Hosting.HearsCall, Hosting.Lobby, Hosting.WasHeard, Hosting.filled_by}
+use Rattle.dn_session.specs.{Hosting.on_call, Hosting.on_opened, Hosting.seated, Reading.IsCallIn, Seats.held_again, Seats.is_of, Seats.seat_of, Seats.taken_again, Seats.taken_by}
 use Rattle.dn_session.specs.{declared.greeting.Address.Address, declared.greeting.Call.Call, declared.greeting.GreetingFault.GreetingFault, declared.seats.Held.Held, declared.seats.Seat.Seat}
 use Rattle.dn_session.specs.declared.seats.Seat.TheVariants as seat
 use Rattle.dn_session.proofs.{Lobbies.each_call, Lobbies.none_passes}
@@ -23,38 +23,15 @@ one_set (z ∷ rest) (suc k) (suc n) changed s e = elim (one_set rest k n change
 ]
 
 was : (s : Seat) (held : Held) → s ≡ seat.Taken held → WasHeard held.heard s
-was seat.Absent held e = absurd (cc)
-was seat.Free held e = absurd (cc)
-was (seat.Taken before) held e = let same : before ≡ held = cc in ap (λ (h : Held). h.heard) same
+was s held e = grind arith
 
 heard_later : (from : Address) (now time : ℕ) (before : Held)
     → (held_again from now time before).heard ≡ max before.heard time
-heard_later from now time before = elim (cases_Bool (is_here from before)) [
-  | inl here ↦ rw here refl
-  | inr there ↦ elim (cases_Bool (is_recent now before.heard_here)) [
-    | inl recent ↦ rw (there, recent) refl
-    | inr silent ↦ rw (there, silent) refl
-  ]
-]
-
-either : (a b : ℕ) → (a ≡ max a b) ⊎ (max a b ≡ b)
-either a b = elim (cases_lt a b) [
-  | inl less ↦ inr (omega arith)
-  | inr more ↦ inl (omega arith)
-]
+heard_later from now time before = grind arith
 
 heard_again : (from : Address) (now time : ℕ) (s : Seat) (held : Held) → taken_again from now time s ≡ seat.Taken held
     → WasHeard held.heard s ⊎ (held.heard ≡ time)
-heard_again from now time seat.Absent held e = absurd (cc)
-heard_again from now time seat.Free held e = absurd (cc)
-heard_again from now time (seat.Taken before) held e =
-    let same : held_again from now time before ≡ held = cc in
-    let later : max before.heard time ≡ held.heard =
-    sym (heard_later from now time before) ∙ ap (λ (h : Held). h.heard) same in
-    elim (either before.heard time) [
-      | inl old ↦ inl (old ∙ later)
-      | inr new ↦ inr (sym later ∙ new)
-    ]
+heard_again from now time s held e = grind (arith, heard_later)
 
 module _ (from : Address) (call : Call) (now n : ℕ) (l : Lobby) where
   abbrev old : Seat
@@ -125,13 +102,7 @@ module _ (from : Address) (call : Call) (now n : ℕ) (l : Lobby) where
 
   followed : (time : ℕ) (before : Held) → (held_again from now time before).holder.address ≢ before.holder.address
       → (is_recent now before.heard_here ≡ false) × ((held_again from now time before).holder.address ≡ from)
-  followed time before other = elim (cases_Bool (is_here from before)) [
-    | inl here ↦ absurd (other (rw here refl))
-    | inr there ↦ elim (cases_Bool (is_recent now before.heard_here)) [
-      | inl recent ↦ absurd (other (rw (there, recent) refl))
-      | inr silent ↦ (silent, rw (there, silent) refl)
-    ]
-  ]
+  followed time before other = grind arith
 
   more_moved : (k : ℕ) → l.begun ≡ false → is_good l.random from now call.cookie ≡ true
       → position (is_of call.number) l.seats ≡ Some k
@@ -156,10 +127,7 @@ module _ (from : Address) (call : Call) (now n : ℕ) (l : Lobby) where
 -- the time of a good cookie is at most now
 at_most : (random : List ℕ) (from : Address) (now : ℕ) (cookie : List ℕ) → is_good random from now cookie ≡ true
     → time_of cookie ≤ now
-at_most random from now cookie good =
-    let recent = (and_parts (bytes_eq cookie (cookie_of random from (time_of cookie)))
-    (is_recent now (time_of cookie)) good).1 in
-    leb-true (time_of cookie) now (and_parts (nat_le (time_of cookie) now) (nat_le now (time_of cookie + fresh_for)) recent).0
+at_most random from now cookie good = grind (arith, and_parts, leb-true)
 
 module _ (from : Address) (bytes : List ℕ) (now n : ℕ) (old new : Lobby) (reply : Option (List ℕ)) where
   abbrev IsSign : Held → Type 0

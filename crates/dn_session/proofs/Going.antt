@@ -1,10 +1,10 @@
 -- The parts of the players of one game go on.
-use Rattle.std.proofs.Common.{◌≡◌, ◌<◌, ℕ, ℤ, List, Option, Some, None, Bool, true, false, refl, ap, sym, subst, ◌∙◌, inl, inr}
-use Rattle.std.proofs.{lemmas.Bool.cases_Bool, lemmas.Bool.cases_eq}
+use Rattle.std.proofs.Common.{◌≡◌, ◌<◌, ℕ, ℤ, List, Option, Some, None, Bool, true, false, refl, ap, sym, subst, ◌∙◌, inl, inr, arith}
+use Rattle.std.proofs.{lemmas.Bool.cases_Bool}
 use Rattle.dn_tic.specs.{declared.command.Move.Move, declared.input.Input.Input}
 use Rattle.dn_setup.specs.Settings.{Settings}
 use Rattle.dn_machine.specs.{Limits.Limits, Node.put, declared.answers.Made.Made, declared.answers.Ran.Ran}
-use Rattle.dn_machine.proofs.Put.{put_at, put_off, same_functions}
+use Rattle.dn_machine.proofs.Put.{put_at, view_put}
 use Rattle.dn_lockstep.specs.{Marking.Marking, OneGame.told_on}
 use Rattle.dn_seal.specs.declared.seal.Seal.{Seal}
 use Rattle.dn_survivor.specs.OneGame.{Session, after_build, after_run, with_survivor}
@@ -25,26 +25,24 @@ Rows = List (List (Option Move))
 -- a part in its place has its link there
 links_put : (parts : ℕ → Playing) (p : ℕ) (new : Playing)
     → links_of (put parts p new) ≡ put (links_of parts) p (linked new.link)
-links_put parts p new = same_functions (λ other. elim (cases_eq other p) [
-  | inl at ↦ ap (λ (q : Playing). linked q.link) (put_at parts p other new at)
-      ∙ sym (put_at (links_of parts) p other (linked new.link) at)
-  | inr off ↦ ap (λ (q : Playing). linked q.link) (put_off parts p other new off)
-      ∙ sym (put_off (links_of parts) p other (linked new.link) off)
-])
+links_put parts p new = view_put (λ (q : Playing). linked q.link) parts p new
 
 -- of two in one place the second is there
 pub twice : {A : Type 0} (f : ℕ → A) (p : ℕ) (one two : A) → put (put f p one) p two ≡ put f p two
-twice f p one two = same_functions (λ other. elim (cases_eq other p) [
-  | inl at ↦ put_at (put f p one) p other two at ∙ sym (put_at f p other two at)
-  | inr off ↦ put_off (put f p one) p other two off ∙ put_off f p other one off ∙ sym (put_off f p other two off)
-])
+twice f p one two = grind arith
 
 -- where no row was told all is as it was
 pub untold : (told : ℕ → Rows) (p other : ℕ) → told other ≡ put told p (told p) other
-untold told p other = elim (cases_eq other p) [
-  | inl at ↦ ap told at ∙ sym (put_at told p other (told p) at)
-  | inr off ↦ sym (put_off told p other (told p) off)
-]
+untold told p other = grind arith
+
+-- what is so in each place is so with another in one, of one or of two
+pub one_put : {A : Type 0} (P : ℕ → A → Type 0) (f : ℕ → A) (i : ℕ) (x : A) → P i x → (j : ℕ) → P j (f j)
+    → P j (put f i x j)
+one_put P f i x new j old = grind arith
+
+pub both_put : {A B : Type 0} (P : ℕ → A → B → Type 0) (f : ℕ → A) (g : ℕ → B) (i : ℕ) (x : A) (y : B) → P i x y
+    → (j : ℕ) → P j (f j) (g j) → P j (put f i x j) (put g i y j)
+both_put P f g i x y new j old = grind arith
 
 -- with a new part of a player they are those of the game in a later session, in which nothing that was given is
 -- gone, and this player's run told this row, if there is one
@@ -73,10 +71,7 @@ module _ (marking : Marking) (limits : Limits) (settings : Settings) (seal : Sea
       later = later;
       stay = record {
         links = subst (AreRemainingLinks marking limits settings later) (sym (links_put parts p new)) stays.0;
-        sealed = λ other below. elim (cases_eq other p) [
-          | inl at ↦ ap (λ (q : Playing). seal_of q.link) (put_at parts p other new at) ∙ own ∙ are.sealed p few
-          | inr off ↦ ap (λ (q : Playing). seal_of q.link) (put_off parts p other new off) ∙ are.sealed other below
-        ];
+        sealed = λ other below. grind arith;
       };
       given = stays.1;
       told = told;
@@ -111,12 +106,7 @@ module _ (marking : Marking) (limits : Limits) (settings : Settings) (seal : Sea
       stay = record {
         links = subst (AreRemainingLinks marking limits settings on.later) (links_put parts p mid
             ∙ ap (put (links_of parts) p) (sym same) ∙ sym (links_put parts p new)) on.stay.links;
-        sealed = λ other below. elim (cases_eq other p) [
-          | inl at ↦ ap (λ (q : Playing). seal_of q.link) (put_at parts p other new at) ∙ own
-              ∙ sym (ap (λ (q : Playing). seal_of q.link) (put_at parts p other mid at)) ∙ on.stay.sealed other below
-          | inr off ↦ ap (λ (q : Playing). seal_of q.link) (put_off parts p other new off)
-              ∙ sym (ap (λ (q : Playing). seal_of q.link) (put_off parts p other mid off)) ∙ on.stay.sealed other below
-        ];
+        sealed = λ other below. let was = on.stay.sealed other below in grind arith;
       };
       given = on.given;
       told = on.told;

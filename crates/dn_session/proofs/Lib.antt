@@ -14,3 +14,4 @@ pub mod Rosters
 pub mod NewLinks
 pub mod Staying
 pub mod Told
+pub mod AfterCalls

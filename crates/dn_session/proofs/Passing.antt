@@ -3,7 +3,7 @@ use Rattle.std.proofs.Common.{◌≡◌, ◌≤◌, arith, ℕ, List, Bool, true
 use Rattle.std.proofs.lemmas.Option.{none-some, same_Some}
 use Rattle.dn_seal.specs.{declared.seal.Seal.Seal, Opening.IsSized}
 use Rattle.dn_open.specs.Sealed.{sealing_of}
-use Rattle.dn_link.specs.{Ends.excludes, Hearing.ByTest, Linked.Linked, Linked.Receives, Linked.ReceivesAs, Linked.has_given_up, Linked.is_peer}
+use Rattle.dn_link.specs.{Hearing.ByTest, Linked.Linked, Linked.Receives, Linked.ReceivesAs}
 use Rattle.dn_link.specs.{Reading.IsBundledAs, Reading.bundles, declared.bundle.Bundle.Bundle, declared.bundle.BundleFault.BundleFault, declared.received.Received.Received}
 use Rattle.dn_link.specs.declared.bundle.BundleFault.TheVariants as fault
 use Rattle.dn_link.specs.declared.received.Received.TheVariants as received
@@ -21,11 +21,7 @@ either false this that holds = that holds
 -- one that was opened is not answered so
 opened_is : (bundle : Bundle) (old new : Linked) (answer : Received) → ReceivesAs (Ok bundle) old new answer
     → why answer ≡ None
-opened_is bundle old new answer =
-    either (is_peer old.node bundle.from)
-    (either (has_given_up old bundle.from) (λ is. ap why is.0)
-    (either (excludes bundle) (λ is. ap why is.0) (λ is. ap why is.0)))
-    (λ is. ap why is.0)
+opened_is bundle old new answer = grind (arith, either)
 
 -- what is for another player has the size of a datagram
 pub sized : (seal : Seal) (bytes : List ℕ) (old new : Linked) (answer : Received) → Receives seal bytes old new answer

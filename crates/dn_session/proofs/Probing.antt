@@ -1,8 +1,8 @@
 -- No more probes go to an address than datagrams came from it, where the roster does not tell it.
 use Rattle.std.proofs.Common.{◌≡◌, ◌≤◌, ◌+◌, ◌∙◌, ◌⊎◌, ℕ, List, [], ◌∷◌, length, ap, refl, sym, arith, Bool, true, false, Option, Some, None, inl, inr}
-use Rattle.std.proofs.lemmas.{Bool.and_parts, Bool.cases_Bool, Option.none-some, Option.same_Some, Slice.Eq.bytes_eq-Decides}
-use Rattle.std.specs.{Prelude.{◌&&◌, filter, find, if◌then◌else◌, not}, Option.option_map, Str.bytes_eq}
-use Rattle.dn_session.specs.Places.{Happening, Comes, Sends, after_probe, answered_by, answers_at, comes_from, happened, heard_by, heard_from, heard_here, is_due_at, is_echoed, is_fallback_due, is_this, may_move, new_spot, passed_by, probe_to, probed, probes_to, sought_at, spot_at}
+use Rattle.std.proofs.lemmas.{Option.none-some, Slice.Eq.bytes_eq-Decides}
+use Rattle.std.specs.{Prelude.{◌&&◌, filter, find, if◌then◌else◌}, Option.option_map}
+use Rattle.dn_session.specs.Places.{Happening, Comes, Sends, after_probe, answered_by, comes_from, happened, heard_by, heard_from, heard_here, is_due_at, is_echoed, is_this, may_move, new_spot, passed_by, probe_to, probed, probes_to, sought_at, spot_at}
 use Rattle.dn_session.specs.declared.{greeting.Address.Address, places.{News.News, Place.Place, Probe.Probe, Spot.Spot}}
 
 abbrev one_if : Bool → ℕ
@@ -13,35 +13,22 @@ due s = record s { is_due = true }
 
 either : (P : Place → Type 0) (test : Bool) (one two : Place) → (test ≡ true → P one) → P two
     → P (if test then one else two)
-either P true one two this that = this refl
-either P false one two this that = that
+either P test one two this that = grind arith
 
 counted : {A : Type 0} (test : Bool) (x : A) (xs : List A) → length (if test then x ∷ xs else xs) ≡ one_if test + length xs
-counted true x xs = omega arith
-counted false x xs = omega arith
+counted test x xs = grind arith
 
 -- no call moves a spot
 due_at : (s : Option Spot) → spot_at (option_map due s) ≡ spot_at s
-due_at None = refl
-due_at (Some s) = refl
+due_at s = grind arith
 
 probed_at : (to : Address) (now : ℕ) (s : Option Spot) → spot_at (option_map (probed to now) s) ≡ spot_at s
-probed_at to now None = refl
-probed_at to now (Some s) = elim (cases_Bool (is_this to (Some s.address))) [
-  | inl here ↦ rw here refl
-  | inr there ↦ rw there refl
-]
+probed_at to now s = grind arith
 
 -- where a probe goes, and why
 why : (looked silence : ℕ) (place : Place) (to : Address) → probe_to looked silence place ≡ Some to
     → (spot_at place.fallback ≡ Some to) ⊎ ((is_due_at looked place.candidate ≡ true) × (spot_at place.candidate ≡ Some to))
-why looked silence place to is = elim (cases_Bool (is_fallback_due looked silence (answers_at looked place) place.fallback)) [
-  | inl besides ↦ inl (rw besides at is)
-  | inr untold ↦ elim (cases_Bool (is_due_at looked place.candidate)) [
-    | inl asked ↦ inr (asked, rw (untold, asked) at is)
-    | inr idle ↦ absurd (none-some to (rw (untold, idle) at is))
-  ]
-]
+why looked silence place to is = grind (arith, none-some)
 
 module _ (at : Address) where
   -- whether a candidate is this address, and a probe is due to it
@@ -53,8 +40,7 @@ module _ (at : Address) where
   credit spot = one_if (is_asked spot)
 
   nothing : (s : Option Spot) → is_this at (spot_at s) ≡ false → credit s ≡ 0
-  nothing None off = refl
-  nothing (Some s) off = rw off refl
+  nothing s off = grind arith
 
   -- A datagram gives one probe at most to where it came from.
   module _ (from : Address) (now : ℕ) (news : News) (place : Place) where
@@ -66,20 +52,10 @@ module _ (at : Address) where
 
     again : (s : Option Spot) → is_this from (spot_at s) ≡ true
         → credit (option_map due s) ≤ one_if (is_this at (Some from)) + credit s
-    again None here = absurd (cc)
-    again (Some s) here = elim (cases_Bool (is_this at (Some s.address))) [
-      | inl so ↦
-          let also : is_this at (Some from) ≡ true =
-          sym (ap (λ (b : List ℕ). bytes_eq b at.bytes) ((bytes_eq-Decides s.address.bytes from.bytes).0 here)) ∙ so in
-          rw (so, also) (omega arith)
-      | inr off ↦ rw off (omega arith)
-    ]
+    again s here = grind (arith, bytes_eq-Decides)
 
     first : IsWithin (record place { candidate = Some (new_spot true now from) })
-    first = elim (cases_Bool (is_this at (Some from))) [
-      | inl so ↦ rw so (omega arith)
-      | inr off ↦ rw off (omega arith)
-    ]
+    first = grind arith
 
     sought : IsWithin (sought_at from now place)
     sought =
@@ -88,17 +64,13 @@ module _ (at : Address) where
         (either IsWithin (may_move from now place) _ _ (λ may. first) same))
 
     here : (is_answer : Bool) → IsWithin (heard_here now is_answer place)
-    here true = omega arith
-    here false = same
+    here is_answer = grind arith
 
     heard : IsWithin (heard_from from now news place)
-    heard =
-        either IsWithin (not news.is_current) _ _ (λ old. same)
-        (either IsWithin (is_this from place.address) _ _ (λ own. here news.is_answer) sought)
+    heard = grind (arith, either, here, sought)
 
     echoes : (probe : Option Probe) (new : Place) → credit (answered_by now probe new).candidate ≤ credit new.candidate
-    echoes None new = omega arith
-    echoes (Some p) new = omega arith
+    echoes probe new = grind arith
 
     comes : (is_passed : Bool) → IsWithin (heard_by is_passed from now news place)
     comes is_passed =
@@ -117,65 +89,32 @@ module _ (at : Address) where
       asked_again = (other.0, ap (is_this at) (due_at place.fallback) ∙ other.1)
 
       here_else : (is_answer : Bool) → IsElse (heard_here now is_answer place)
-      here_else true = other
-      here_else false = other
+      here_else is_answer = grind arith
 
       heard_else : IsElse (heard_from from now news place)
-      heard_else =
-          either IsElse (not news.is_current) _ _ (λ old. other)
-          (either IsElse (is_this from place.address) _ _ (λ own. here_else news.is_answer)
-          (either IsElse (is_this from (spot_at place.fallback)) _ _ (λ there. asked_again)
-          (either IsElse (is_this from (spot_at place.candidate)) _ _ (λ here. other)
-          (either IsElse (may_move from now place) _ _ (λ may. other) other))))
+      heard_else = grind (arith, either, here_else, asked_again)
 
       kept : (to s : Option Address) (spot : Option Spot) → is_this at s ≡ false → is_this at (spot_at spot) ≡ false
           → is_this at (spot_at (elim s as (λ _. Option Spot) [
             | None ↦ spot
             | Some before ↦ if is_this before to then spot else Some (new_spot false now before)
           ])) ≡ false
-      kept to None spot off other = other
-      kept to (Some a) spot off other = elim (cases_Bool (is_this a to)) [
-        | inl here ↦ rw here other
-        | inr there ↦ rw there off
-      ]
+      kept to s spot off other = grind arith
 
       echoes_else : (probe : Option Probe) (new : Place) → IsElse new → is_this at (spot_at (answered_by now probe new).fallback) ≡ false
-      echoes_else None new is = is.1
-      echoes_else (Some p) new is = kept p.to new.address new.fallback is.0 is.1
+      echoes_else probe new is = grind (arith, kept)
 
       comes_else : (is_passed : Bool) → is_this at (spot_at (heard_by is_passed from now news place).fallback) ≡ false
-      comes_else is_passed =
-          let new = if is_passed then passed_by now news.is_current place else heard_from from now news place in
-          let before : IsElse new =
-          either IsElse is_passed _ _ (λ is. either IsElse _ _ _ (λ noted. other) other) heard_else in
-          either (λ (p : Place). is_this at (spot_at p.fallback) ≡ false) news.is_answer _ _
-          (λ is. echoes_else (find (is_echoed news.echo) new.probes) new before) before.1
+      comes_else is_passed = grind (arith, either, heard_else, echoes_else)
 
   -- A probe takes the one that was given.
   module _ (looked silence echo : ℕ) (place : Place) (other : is_this at (spot_at place.fallback) ≡ false) where
     fewer : (to : Address) (s : Option Spot) → credit (option_map (probed to looked) s) ≤ credit s
-    fewer to None = omega arith
-    fewer to (Some s) = elim (cases_Bool (is_this to (Some s.address))) [
-      | inl here ↦ elim (cases_Bool (is_this at (Some s.address))) [
-        | inl so ↦ rw (here, so) (omega arith)
-        | inr off ↦ rw (here, off) (omega arith)
-      ]
-      | inr there ↦ rw there (omega arith)
-    ]
+    fewer to s = grind arith
 
     taken : (to : Address) (s : Option Spot) → is_due_at looked s ≡ true → spot_at s ≡ Some to
         → one_if (is_this at (Some to)) + credit (option_map (probed to looked) s) ≤ credit s
-    taken to None asked is = absurd (cc)
-    taken to (Some s) asked is =
-        let same : s.address ≡ to = same_Some s.address to is in
-        let here : is_this to (Some s.address) ≡ true =
-        (bytes_eq-Decides s.address.bytes to.bytes).1 (ap (λ (a : Address). a.bytes) same) in
-        let due : s.is_due ≡ true = (and_parts s.is_due _ asked).0 in
-        let alike : is_this at (Some to) ≡ is_this at (Some s.address) = ap (λ (a : Address). is_this at (Some a)) (sym same) in
-        elim (cases_Bool (is_this at (Some s.address))) [
-          | inl so ↦ let also = alike ∙ so in rw (here, so, also, due) (omega arith)
-          | inr off ↦ let also = alike ∙ off in rw (here, off, also) (omega arith)
-        ]
+    taken to s asked is = grind (arith, bytes_eq-Decides)
 
     sends : (to : Option Address) → probe_to looked silence place ≡ to → one_if (is_this at to) + credit (elim to as (λ _. Place) [
       | None ↦ place
@@ -199,8 +138,7 @@ module _ (at : Address) where
 
   -- one of both, and what follows
   either_way : (shown : Bool) (n m : ℕ) → (shown ≡ false → n ≤ m) → (if shown then 0 else n) ≤ m
-  either_way true n m less = omega arith
-  either_way false n m less = less refl
+  either_way shown n m less = grind arith
 
   all : (happenings : List Happening) (place : Place) → is_this at (spot_at place.fallback) ≡ false
       → probes_to at place happenings ≤ length (filter (comes_from at) happenings) + credit place.candidate

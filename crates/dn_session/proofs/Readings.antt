@@ -3,11 +3,11 @@ use Rattle.std.proofs.Common.{◌≡◌, ◌≢◌, ◌≤◌, ◌+◌, ◌-◌,
 use Rattle.std.proofs.lemmas.Bool.{cases_lt, eq-eqb, eqb-true, le-ltb, lt-ltb, ltb-false}
 use Rattle.std.proofs.{lemmas.List.take-append-drop, lemmas.List.take-take, lemmas.List.drop-take, lemmas.List.length-append, lemmas.Option.same_Some}
 use Rattle.std.proofs.{lemmas.Option.none-some, lemmas.Slice.Eq.bytes_eq-Decides, Math.Seq.take-append_seam, Math.Seq.drop-append_seam}
-use Rattle.std.specs.Prelude.{IfSome, slice_index, ◌==◌, not, nat_lt, if◌then◌else◌}
-use Rattle.std.specs.{Option.ok_or, Str.bytes_eq}
+use Rattle.std.specs.Prelude.{IfSome, slice_index, not, if◌then◌else◌}
+use Rattle.std.specs.{Option.ok_or}
 use Rattle.dn_seal.specs.{Hmac.suite_byte, Hmac.tag_of, Opening.told_body, Opening.told_tag, declared.seal.Seal.Seal}
 use Rattle.dn_seal.proofs.Envelopes.{length-tag}
-use Rattle.dn_session.specs.declared.greeting.GreetingFault.TheVariants.{Form, Kind, Length, Short, Suite, Tag, Version, What}
+use Rattle.dn_session.specs.declared.greeting.GreetingFault.TheVariants.{Form, Short}
 use Rattle.dn_session.specs.{Hosting.hint_for, Reading.IsCallIn, Reading.IsGreetingIn, Reading.IsReadAs, Reading.IsRefusedIn, Reading.IsSeatingIn, Reading.first_fault, Sorts.Sort, Sorts.calls, Sorts.refusals, Sorts.seatings, Text.body_bytes, Text.greeting_bytes, Text.head_bytes}
 use Rattle.dn_session.specs.{Text.kind_bytes, declared.greeting.Call.Call, declared.greeting.GreetingFault.GreetingFault, declared.greeting.Hint.Hint, declared.greeting.Refused.Refused, declared.greeting.Seating.Seating}
 use Rattle.dn_session.proofs.Rests.{call_back, length-call, length-refused, length-seating, refused_back, seating_back}
@@ -27,47 +27,21 @@ pub record Passes (seal : Seal) (what size : ℕ) (bytes : List ℕ) : Type 0 wh
 pub clean : (seal : Seal) (what size : ℕ) (bytes : List ℕ) → Passes seal what size bytes
     → first_fault seal what size bytes ≡ None
 unfolding first_fault
-clean seal what size bytes p =
-    let a = le-ltb (length bytes) 29 p.long in
-    let b = (bytes_eq-Decides (take 9 (drop 1 bytes)) kind_bytes).1 p.kind in
-    let c = eq-eqb (slice_index bytes 11) what p.one in
-    let d = eq-eqb (slice_index bytes 10) 2 p.version in
-    let e = eq-eqb (length bytes) size p.sized in
-    let f = eq-eqb (slice_index bytes 0) (suite_byte seal.suite) p.suite in
-    let g = (bytes_eq-Decides (told_tag bytes) (tag_of seal.key (told_body bytes))).1 p.tag in
-    rw (a, b, c, d, e, f, g) refl
+clean seal what size bytes p = grind (arith, le-ltb, bytes_eq-Decides, eq-eqb)
 
 -- one more test: without a fault it was passed, and no later one fails
 unless : (test : Bool) (fault : GreetingFault) (later : Option GreetingFault)
     → (if not test then Some fault else later) ≡ None → (test ≡ true) × (later ≡ None)
-unless true fault later e = (refl, e)
-unless false fault later e = absurd (none-some fault (sym e))
+unless test fault later e = grind arith
 
 long_first : (test : Bool) (fault : GreetingFault) (later : Option GreetingFault)
     → (if test then Some fault else later) ≡ None → (test ≡ false) × (later ≡ None)
-long_first false fault later e = (refl, e)
-long_first true fault later e = absurd (none-some fault (sym e))
+long_first test fault later e = grind arith
 
 pub passed : (seal : Seal) (what size : ℕ) (bytes : List ℕ) → first_fault seal what size bytes ≡ None
     → Passes seal what size bytes
 unfolding first_fault
-passed seal what size bytes none =
-    let a = long_first (nat_lt (length bytes) 29) Short _ none in
-    let b = unless (bytes_eq (take 9 (drop 1 bytes)) kind_bytes) Kind _ a.1 in
-    let c = unless (slice_index bytes 11 == what) What _ b.1 in
-    let d = unless (slice_index bytes 10 == 2) Version _ c.1 in
-    let e = unless (length bytes == size) Length _ d.1 in
-    let f = unless (slice_index bytes 0 == suite_byte seal.suite) Suite _ e.1 in
-    let g = unless (bytes_eq (told_tag bytes) (tag_of seal.key (told_body bytes))) Tag None f.1 in
-    record {
-      long = ltb-false (length bytes) 29 a.0;
-      kind = (bytes_eq-Decides (take 9 (drop 1 bytes)) kind_bytes).0 b.0;
-      one = eqb-true (slice_index bytes 11) what c.0;
-      version = eqb-true (slice_index bytes 10) 2 d.0;
-      sized = eqb-true (length bytes) size e.0;
-      suite = eqb-true (slice_index bytes 0) (suite_byte seal.suite) f.0;
-      tag = (bytes_eq-Decides (told_tag bytes) (tag_of seal.key (told_body bytes))).0 g.0;
-    }
+passed seal what size bytes none = grind (arith, long_first, unless, ltb-false, bytes_eq-Decides, eqb-true)
 
 -- the twelve bytes of the head
 head_is : (seal : Seal) (what : ℕ) (bytes : List ℕ) → 12 ≤ length bytes → take 9 (drop 1 bytes) ≡ kind_bytes
@@ -114,16 +88,7 @@ module _ (seal : Seal) (what : ℕ) (rest : List ℕ) where
   its_rest = ap (drop 12) its_body
 
   pub its_tests : (size : ℕ) → length rest + 28 ≡ size → 29 ≤ size → Passes seal what size text
-  its_tests size long enough =
-      record {
-        long = omega (arith, length-text, long, enough);
-        kind = refl;
-        one = refl;
-        version = refl;
-        sized = length-text ∙ long;
-        suite = refl;
-        tag = its_tag ∙ ap (tag_of seal.key) (sym its_body);
-      }
+  its_tests size long enough = grind (arith, length-text, its_tag, its_body)
 
 -- bytes of something that fits have no fault: then what they are read as, if that is a fault, is all that they are
 -- read as; and so is anything, where they are read as one thing at most that fits
@@ -133,18 +98,11 @@ module _ {T : Type 0} (Is : T → Type 0) (text : T → List ℕ) (first : Optio
   Reads = IsReadAs Is text first bytes
 
   pub only_fault : (f : GreetingFault) → Reads (Err f) → (b : Result T GreetingFault) → Reads b → Err f ≡ b
-  only_fault f (inl x) (Ok t) y = absurd (none-some f (sym (clean t y.0 y.1) ∙ x))
-  only_fault f (inr x) (Ok t) y = absurd (x.2 t y.0 y.1)
-  only_fault f (inl x) (Err g) (inl y) = ap Err (same_Some f g (sym x ∙ y))
-  only_fault f (inl x) (Err g) (inr y) = absurd (none-some f (sym y.1 ∙ x))
-  only_fault f (inr x) (Err g) (inl y) = absurd (none-some g (sym x.1 ∙ y))
-  only_fault f (inr x) (Err g) (inr y) = ap Err (x.0 ∙ sym y.0)
+  only_fault f x b y = grind (arith, clean)
 
   pub only : ((s t : T) → Reads (Ok s) → Reads (Ok t) → s ≡ t)
       → (a b : Result T GreetingFault) → Reads a → Reads b → a ≡ b
-  only one (Ok s) (Ok t) x y = ap Ok (one s t x y)
-  only one (Ok s) (Err f) x y = sym (only_fault f y (Ok s) x)
-  only one (Err f) b x y = only_fault f x b y
+  only one a b x y = grind (arith, only_fault)
 
 -- a sort of which each greeting has a rest, which is as long as it should be
 pub record IsSized {T : Type 0} (sort : Sort T) : Type 0 where
@@ -225,12 +183,7 @@ one_refusal seal bytes =
 pub long_fault : (seal : Seal) (what size : ℕ) (bytes : List ℕ) (f : GreetingFault)
     → first_fault seal what size bytes ≡ Some f → f ≢ Short → 29 ≤ length bytes
 unfolding first_fault
-long_fault seal what size bytes f first other = elim (cases_lt (length bytes) 29) [
-  | inl few ↦
-      let short = lt-ltb (length bytes) 29 few in
-      absurd (other (sym (same_Some Short f (rw short at first))))
-  | inr long ↦ long
-]
+long_fault seal what size bytes f first other = grind (arith, cases_lt, lt-ltb, same_Some)
 
 -- and those that get a hint are long enough for it
 pub hint_is_long : (seal : Seal) (bytes : List ℕ) (f : GreetingFault) (h : Hint) → IsCallIn seal bytes (Err f)

@@ -1,6 +1,6 @@
 -- The rest of a greeting, which stands behind its head, is found again in its bytes.
-use Rattle.std.proofs.Common.{◌≡◌, ◌≤◌, ◌+◌, ℕ, zero, suc, List, [], ◌∷◌, ◌++◌, length, take, drop, All, refl, ap, sym, ◌∙◌, arith, Option, Some, None, length-append, true, false, Bool}
-use Rattle.std.proofs.{Math.ListN.get_or, Math.Seq.drop-append_seam, Math.Seq.take-append_seam, Math.Seq.take-length, lemmas.Bool.ne_eqb, lemmas.List.drop-drop, lemmas.List.get_or-drop}
+use Rattle.std.proofs.Common.{◌≡◌, ◌≤◌, ◌+◌, ℕ, List, [], ◌∷◌, ◌++◌, length, take, drop, All, refl, ap, sym, ◌∙◌, arith, Option, Some, None, length-append, true, false, Bool}
+use Rattle.std.proofs.{Math.ListN.get_or, Math.Seq.drop-append_seam, Math.Seq.take-append_seam, Math.Seq.take-length, lemmas.List.drop-drop, lemmas.List.get_or-drop}
 use Rattle.std.proofs.{lemmas.List.get_or-take, lemmas.List.Elements.All-head, lemmas.List.Elements.All-tail, lemmas.Nat.from_le_bytes-to_le_bytes_4}
 use Rattle.std.specs.Prelude.{⊤, IfSome, ◌==◌, slice_index, unwrap_or, ◌<◌, ◌^◌}
 use Rattle.std.specs.{List.flat_map, Int.w32, Int.to_le_bytes, Int.from_le_bytes}
@@ -8,8 +8,7 @@ use Rattle.dn_session.specs.{Terms.IsTerms, Terms.bit, Terms.policy_bytes, Terms
 use Rattle.dn_session.specs.{Text.is_count_or_none, Text.is_wish, Text.padding, Text.reason_bytes, Text.refused_rest, Text.seating_rest, Text.shown_bytes}
 use Rattle.dn_session.proofs.Told.{told_at, told_call, told_name, told_policy, told_reason, told_refused, told_seating, told_shown, told_terms}
 use Rattle.dn_session.specs.declared.{greeting.Call.Call, greeting.Refusal.Refusal, greeting.Refused.Refused, greeting.Seating.Seating, greeting.Shown.Shown, terms.Policy.Policy}
-use Rattle.dn_session.specs.declared.{terms.Policy.TheVariants.End, terms.Policy.TheVariants.GiveUp, terms.Policy.TheVariants.Wait, terms.Terms.Terms}
-use Rattle.dn_session.specs.declared.greeting.Refusal.TheVariants as refusal
+use Rattle.dn_session.specs.declared.{terms.Terms.Terms}
 
 -- pieces of bytes, each with its length; behind one another, and then what is last; and how long they are in all
 abbrev Sized : List (List ℕ × ℕ) → Type 0
@@ -61,18 +60,13 @@ byte_at place bytes a is =
 
 -- a number that is named is found again
 name_back : (n : Option ℕ) → IfSome n (λ m. 1 ≤ m) → told_name (unwrap_or n 0) ≡ n
-name_back None is = refl
-name_back (Some n) is = let other = ne_eqb n 0 (λ e. omega (arith, e, is)) in rw other refl
+name_back n is = grind arith
 
 wish_named : (n : Option ℕ) → is_wish n ≡ true → IfSome n (λ m. 1 ≤ m)
-wish_named None is = tt
-wish_named (Some zero) is = absurd (cc)
-wish_named (Some (suc n)) is = omega arith
+wish_named n is = grind arith
 
 count_named : (n : Option ℕ) → is_count_or_none n ≡ true → IfSome n (λ m. 1 ≤ m)
-count_named None is = tt
-count_named (Some zero) is = absurd (cc)
-count_named (Some (suc n)) is = omega arith
+count_named n is = grind arith
 
 length-padding : length padding ≡ 483
 unfolding padding
@@ -104,21 +98,16 @@ module _ (call : Call) (is : IsCall call) where
 
 -- a flag is found again in its byte
 bit_back : (flag : Bool) → (bit flag == 1) ≡ flag
-bit_back true = refl
-bit_back false = refl
+bit_back flag = grind arith
 
 -- a policy has two bytes, and is found again in them
 policy_back : (policy : Policy) (ys : List ℕ) → (length (policy_bytes policy) ≡ 2)
     × (told_policy (slice_index (policy_bytes policy ++ ys) 0) (slice_index (policy_bytes policy ++ ys) 1) ≡ policy)
-policy_back Wait ys = (refl, refl)
-policy_back (GiveUp seconds) ys = (refl, refl)
-policy_back (End seconds) ys = (refl, refl)
+policy_back policy ys = grind arith
 
 pub policy_there : (policy : Policy) (ys : List ℕ)
     → policy_bytes policy ≡ slice_index (policy_bytes policy ++ ys) 0 ∷ slice_index (policy_bytes policy ++ ys) 1 ∷ []
-policy_there Wait ys = refl
-policy_there (GiveUp seconds) ys = refl
-policy_there (End seconds) ys = refl
+policy_there policy ys = grind arith
 
 -- terms take 288 bytes, and are found again in them
 module _ (terms : Terms) (is : IsTerms terms) where
@@ -159,8 +148,7 @@ length-shown (Some shown) is =
     omega (arith, all, is.name)
 
 heard_back : (heard : Bool) → ((1 + bit heard == 0) ≡ false) × ((1 + bit heard == 2) ≡ heard)
-heard_back true = (refl, refl)
-heard_back false = (refl, refl)
+heard_back heard = grind arith
 
 pub shown_back : (seat : Option Shown) → IsShown seat → told_shown (shown_bytes seat) ≡ seat
 shown_back None is = refl
@@ -246,21 +234,12 @@ module _ (s : Seating) (is : IsSeating s) where
 -- a refusal
 reason_back : (why : Refusal) → (length (reason_bytes why) ≡ 2)
     × (told_reason (slice_index (reason_bytes why) 0) (slice_index (reason_bytes why) 1) ≡ why)
-reason_back refusal.Cookie = (refl, refl)
-reason_back refusal.Full = (refl, refl)
-reason_back refusal.Begun = (refl, refl)
-reason_back (refusal.Players n) = (refl, refl)
-reason_back refusal.Identity = (refl, refl)
-reason_back refusal.Kicked = (refl, refl)
+reason_back why = grind arith
 
-reason_there : (why : Refusal)
-    → reason_bytes why ≡ slice_index (reason_bytes why) 0 ∷ slice_index (reason_bytes why) 1 ∷ []
-reason_there refusal.Cookie = refl
-reason_there refusal.Full = refl
-reason_there refusal.Begun = refl
-reason_there (refusal.Players n) = refl
-reason_there refusal.Identity = refl
-reason_there refusal.Kicked = refl
+-- it has two
+two_bytes : (xs : List ℕ) → length xs ≡ 2 → xs ≡ slice_index xs 0 ∷ slice_index xs 1 ∷ []
+two_bytes (a ∷ b ∷ []) long = refl
+two_bytes _ long = absurd (omega (arith, long))
 
 module _ (r : Refused) (is : IsRefused r) where
   abbrev refused_pieces : List (List ℕ × ℕ)
@@ -283,7 +262,8 @@ module _ (r : Refused) (is : IsRefused r) where
 
   pub refused_reason : reason_bytes r.refusal
       ≡ slice_index (refused_rest r) 36 ∷ slice_index (refused_rest r) 37 ∷ []
-  refused_reason = reason_there r.refusal ∙ (λ x. reason_at 0 x ∷ reason_at 1 x ∷ [])
+  refused_reason = two_bytes (reason_bytes r.refusal) (reason_back r.refusal).0
+      ∙ (λ x. reason_at 0 x ∷ reason_at 1 x ∷ [])
 
   pub refused_back : told_refused (refused_rest r) ≡ r
   refused_back =

@@ -1,8 +1,8 @@
 -- Which session a game gives a place to.
-use Rattle.std.proofs.Common.{◌≡◌, ◌≤◌, ◌<◌, ◌-◌, ◌+◌, ℕ, List, [], ◌∷◌, length, get_or, refl, ap, sym, subst, ◌∙◌, arith, Option, Some, None, inl, inr, Bool, true, false}
-use Rattle.std.proofs.{Math.ListN.get_or-map, lemmas.Bool.and_parts, lemmas.Bool.cases_Bool, lemmas.Bool.eqb-true, lemmas.Bool.leb-true, lemmas.Option.same_Some}
+use Rattle.std.proofs.Common.{◌≡◌, ◌≤◌, ◌<◌, ◌-◌, ◌+◌, ℕ, List, [], ◌∷◌, length, get_or, refl, ap, sym, subst, ◌∙◌, arith, Option, Some, None, Bool, true, false}
+use Rattle.std.proofs.{Math.ListN.get_or-map, lemmas.Bool.and_parts, lemmas.Bool.eqb-true, lemmas.Bool.leb-true, lemmas.Option.same_Some}
 use Rattle.std.proofs.lemmas.Slice.Eq.{bytes_eq-Decides}
-use Rattle.std.specs.Prelude.{All, IfSome, nat_le, nat_lt, map, if◌then◌else◌, ◌==◌}
+use Rattle.std.specs.Prelude.{IfSome, nat_le, nat_lt, map, if◌then◌else◌, ◌==◌}
 use Rattle.std.specs.Option.{option_map}
 use Rattle.dn_session.specs.Hosting.{IsLobby, IsSeat, Lobby, game, lobby}
 use Rattle.dn_session.specs.Joining.{Joining, game_by, game_in, holds, is_own, joining, number_of}
@@ -31,22 +31,12 @@ there : (j : Joining) (at : Stage) (seating : Option Seating) (begun : Begun)
     → begun_with j (game_by at seating j) seating ≡ Some begun
     → (s : Seating) × (at ≡ stage.Playing) × (seating ≡ Some s) × (begun_there j (game_in j.seal s) s ≡ begun)
 there j stage.Playing (Some s) begun e = (s, refl, refl, same_Some (begun_there j (game_in j.seal s) s) begun e)
-there j stage.Playing None begun e = absurd (cc)
-there j stage.Calling seating begun e = absurd (cc)
-there j stage.Waiting seating begun e = absurd (cc)
-there j stage.Seated seating begun e = absurd (cc)
-there j (stage.Refused why) seating begun e = absurd (cc)
-there j (stage.Hinted hint) seating begun e = absurd (cc)
+there j _ _ begun e = absurd (cc)
 
 placed : (at : Stage) (seating : Option Seating) (place : Place) → place_by at seating ≡ Some place
     → (s : Seating) × (seating ≡ Some s) × (place_told s ≡ place)
 placed stage.Playing (Some s) place e = (s, refl, same_Some (place_told s) place e)
-placed stage.Playing None place e = absurd (cc)
-placed stage.Calling seating place e = absurd (cc)
-placed stage.Waiting seating place e = absurd (cc)
-placed stage.Seated seating place e = absurd (cc)
-placed (stage.Refused why) seating place e = absurd (cc)
-placed (stage.Hinted hint) seating place e = absurd (cc)
+placed _ _ place e = absurd (cc)
 
 -- the game of a session is that of its place
 pub ones_game : (side : Side) (begun : Begun) → begun_in side ≡ Some begun → (place : Place)
@@ -75,10 +65,7 @@ held_by number (Some shown) e = (bytes_eq-Decides shown.holder.number number).0 
 held_by number None e = absurd (cc)
 
 past_host : (n : ℕ) (host rest : List ℕ) → 1 ≤ n → (if n == 0 then host else rest) ≡ rest
-past_host n host rest some = elim (cases_Bool (n == 0)) [
-  | inl none ↦ let no : n ≡ 0 = eqb-true n 0 none in absurd (omega arith)
-  | inr other ↦ rw other refl
-]
+past_host n host rest some = grind (arith, eqb-true)
 
 -- a joiner's seat is that of its own session
 own_seat : (j : Joining) (s : Seating) → IsSeating s → is_own s j ≡ true → session_at (place_told s) ≡ j.number
@@ -109,55 +96,38 @@ pub record IsFixed (game : Fixed) : Type 0 where
   pub second : length two ≡ 16
   pub third : length three ≡ 16
 
-of_three : {A : Type 0} (xs : List A) → length xs ≡ 3 → (a : A) × (b : A) × (c : A) × (xs ≡ a ∷ b ∷ c ∷ [])
-of_three [] e = absurd (omega (arith, e))
-of_three (a ∷ []) e = absurd (omega (arith, e))
-of_three (a ∷ b ∷ []) e = absurd (omega (arith, e))
-of_three (a ∷ b ∷ c ∷ []) e = (a, b, c, refl)
-of_three (a ∷ b ∷ c ∷ d ∷ rest) e = absurd (omega (arith, e))
-
 long_in : (players n : ℕ) (s : Seat) → IsSeat players n s → length (number_in s) ≡ 16
-long_in players n seat.Absent is = refl
-long_in players n seat.Free is = refl
-long_in players n (seat.Taken held) is = is.1.number
+long_in players n s is = grind arith
 
 long_told : (shown : Option Shown) → IfSome shown (λ s. IsHolder s.holder) → length (number_of shown) ≡ 16
 long_told None is = refl
 long_told (Some shown) is = is.number
 
+-- a game with three seats
+fixed_by : {A : Type 0} (game : Fixed) (number : A → List ℕ) (seats : List A) (none : A) → length game.host ≡ 16
+    → IsTerms game.terms → game.roster ≡ map number seats → length seats ≡ 3
+    → ((n : ℕ) → n < 3 → length (number (get_or seats n none)) ≡ 16) → IsFixed game
+fixed_by game number (a ∷ b ∷ c ∷ []) none host terms roster three long = record {
+  host = host;
+  terms = terms;
+  one = number a;
+  two = number b;
+  three = number c;
+  is = roster;
+  first = long 0 (omega arith);
+  second = long 1 (omega arith);
+  third = long 2 (omega arith);
+}
+fixed_by game number _ none host terms roster three long = absurd (omega (arith, three))
+
 fixed_here : (l : Lobby) → IsLobby l → IsFixed (place_here l).game
 fixed_here l fits =
-    let t = of_three l.seats fits.three in
-    let at : (n : ℕ) → n < 3 → IsSeat l.terms.players (n + 1) (get_or (t.0 ∷ t.1 ∷ t.2 ∷ []) n seat.Absent) =
-    λ n less. subst (λ (xs : List Seat). IsSeat l.terms.players (n + 1) (get_or xs n seat.Absent)) t.3 (fits.seats n less) in
-    record {
-      host = fits.number;
-      terms = fits.terms;
-      one = number_in t.0;
-      two = number_in t.1;
-      three = number_in t.2;
-      is = ap (map number_in) t.3;
-      first = long_in l.terms.players 1 t.0 (at 0 (omega arith));
-      second = long_in l.terms.players 2 t.1 (at 1 (omega arith));
-      third = long_in l.terms.players 3 t.2 (at 2 (omega arith));
-    }
+    fixed_by (place_here l).game number_in l.seats seat.Absent fits.number fits.terms refl fits.three
+    (λ n less. long_in l.terms.players (n + 1) (get_or l.seats n seat.Absent) (fits.seats n less))
 
 fixed_there : (s : Seating) → IsSeating s → IsFixed (place_told s).game
-fixed_there s fits =
-    let t = of_three s.seats fits.three in
-    let all : All (λ seat. IfSome seat (λ shown. IsHolder shown.holder)) (t.0 ∷ t.1 ∷ t.2 ∷ []) =
-    subst (All (λ seat. IfSome seat (λ shown. IsHolder shown.holder))) t.3 fits.seats in
-    record {
-      host = fits.host;
-      terms = fits.terms;
-      one = number_of t.0;
-      two = number_of t.1;
-      three = number_of t.2;
-      is = ap (map number_of) t.3;
-      first = long_told t.0 (all 0 None (omega arith));
-      second = long_told t.1 (all 1 None (omega arith));
-      third = long_told t.2 (all 2 None (omega arith));
-    }
+fixed_there s fits = fixed_by (place_told s).game number_of s.seats None fits.host fits.terms refl fits.three
+    (λ n less. let three = fits.three in long_told (get_or s.seats n None) (fits.seats n None (omega arith)))
 
 pub fixed : (side : Side) (place : Place) → IsSide side → place_in side ≡ Some place → IsFixed place.game
 fixed (side.Host host) place fits e =

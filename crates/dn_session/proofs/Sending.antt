@@ -1,7 +1,6 @@
 -- What a part of a game sends.
-use Rattle.std.proofs.Common.{◌≡◌, ◌<◌, ◌⊎◌, ◌∙◌, ℕ, List, [], Option, Some, None, Bool, true, false, ap, refl, subst, sym, inl, inr}
-use Rattle.std.proofs.{lemmas.Bool.and_parts, lemmas.Option.none-some, lemmas.Option.same_Some}
-use Rattle.std.specs.Prelude.{◌&&◌, IfSome, if◌then◌else◌, is_none, slice_index_or}
+use Rattle.std.proofs.Common.{◌≡◌, ◌<◌, ◌⊎◌, ◌∙◌, ℕ, List, [], Option, Some, None, Bool, true, ap, refl, subst, sym, inl, inr, arith}
+use Rattle.std.specs.Prelude.{◌&&◌, IfSome, if◌then◌else◌}
 use Rattle.dn_setup.specs.Settings.{Settings}
 use Rattle.dn_machine.specs.{Flight.Flight, Limits.Limits}
 use Rattle.dn_lockstep.specs.Marking.{Marking}
@@ -10,27 +9,23 @@ use Rattle.dn_survivor.specs.OneGame.{Session, with_survivor}
 use Rattle.dn_link.specs.{Counting.counts_of, Line.own_echo, Linked.Gives, Linked.Linked, Linked.exclusion, Linked.has_given_up, Linked.is_peer, Linked.probe, Linked.remains, Linked.surviving_of, Linking.linked, Linking.seal_of}
 use Rattle.dn_link.specs.{Pacing.pace_of, RemainingLinks.IsLater, RemainingLinks.StayRemaining, RemainingLinks.WasSealedIn, RemainingLinks.after_datagram, Text.IsBundle, Text.sealed_bytes, declared.bundle.Bundle.Bundle}
 use Rattle.dn_link.proofs.RemainingCalls.{counted}
-use Rattle.dn_session.specs.{Parts.AreParts, Parts.links_of, Playing.Playing, Playing.ended_as, Playing.from_turn, declared.greeting.Address.Address}
+use Rattle.dn_session.specs.{Parts.AreParts, Parts.links_of, Playing.Playing, Playing.from_turn, declared.greeting.Address.Address}
 use Rattle.dn_session.specs.Sent.{Excludes, IsFairTo, SendsFirst, SendsNext, SendsOn, SendsTo, Probes, ProbesFirst, first_owed, first_owed_exclusion, first_owed_probe, is_owed, is_owed_probe}
 use Rattle.dn_session.proofs.{Firsts.first_counted_passes, Going.GoOn, Going.kept, Going.silently, Going.silently_and}
 
 -- a datagram goes to one who remains
 pub owed_remains : (part : Playing) (player : ℕ) → is_owed part player ≡ true → remains (linked part.link) player ≡ true
-owed_remains part player owed =
-    (and_parts (remains (linked part.link) player) _
-    (and_parts (is_none (ended_as part.progress)) _ (and_parts (slice_index_or part.owed player false) _ owed).1).1).0
+owed_remains part player owed = grind arith
 
 -- and so does a probe
 pub probed_remains : (part : Playing) (player : ℕ) → is_owed_probe part player ≡ true
     → remains (linked part.link) player ≡ true
-probed_remains part player owed =
-    (and_parts (remains (linked part.link) player) _ (and_parts (is_none (ended_as part.progress)) _ owed).1).0
+probed_remains part player owed = grind arith
 
 -- what is given under a test is that
 pub given_if : {A : Type 0} (test : Bool) (one other : A) → (if test then Some one else None) ≡ Some other
     → other ≡ one
-given_if false one other is = absurd (none-some other is)
-given_if true one other is = sym (same_Some one other is)
+given_if test one other is = grind arith
 
 module _ (marking : Marking) (limits : Limits) (settings : Settings) (seal : Seal) (session : Session)
     (parts : ℕ → Playing) (p : ℕ) (are : AreParts marking limits settings seal session parts) (few : p < limits.players)

@@ -1,14 +1,12 @@
 -- The sessions of one game after a call on one of them.
-use Rattle.std.proofs.Common.{◌≡◌, ◌<◌, ℕ, List, refl, ap, sym, subst, ◌∙◌, arith, Option, Some, None, inl, inr}
-use Rattle.std.proofs.lemmas.Bool.{cases_eq}
+use Rattle.std.proofs.Common.{◌≡◌, ◌<◌, ℕ, List, refl, sym, subst, ◌∙◌, Option, Some, None}
 use Rattle.dn_tic.specs.declared.command.Move.{Move}
 use Rattle.dn_machine.specs.Node.{put}
-use Rattle.dn_machine.proofs.Put.{put_at, put_off}
 use Rattle.dn_lockstep.specs.Marking.{Marking}
 use Rattle.dn_survivor.specs.OneGame.{Session}
 use Rattle.dn_session.specs.{Parts.limits_of, Playing.Playing, Playing.playing, Session.IfPlaying, Session.Meeting, Sessions.AreSessions, Sessions.IsPartFor}
 use Rattle.dn_session.specs.{Sessions.StaySessions, Text.game_seal, declared.part.Part.Part, declared.side.Begun.Begun}
-use Rattle.dn_session.proofs.Going.{GoOn, untold}
+use Rattle.dn_session.proofs.Going.{GoOn, both_put, kept}
 
 module _ (marking : Marking) (secret : Option (List ℕ)) (b : Begun) (session : Session) (meetings : ℕ → Meeting)
     (player : ℕ) (new : Meeting) (are : AreSessions marking secret b session meetings)
@@ -27,59 +25,40 @@ module _ (marking : Marking) (secret : Option (List ℕ)) (b : Begun) (session :
   pub unmade : (meetings player).part ≡ None → IsPartFor secret b player None (are.parts player)
   unmade none = subst (λ (o : Option Part). IsPartFor secret b player o (are.parts player)) none (are.own player few)
 
-  -- a part goes on
-  pub moved : (part : Part) (row : Option (List (Option Move))) → new.part ≡ Some part → On (playing part) row → Stay row
-  moved part row has on = record {
+  -- with a part that goes on they stay so
+  stays : (part : Playing) (row : Option (List (Option Move))) → IsPartFor secret b player new.part part
+      → On part row → Stay row
+  stays part row is on = record {
     later = on.later;
     stay = record {
-      parts = put are.parts player (playing part);
+      parts = put are.parts player part;
       are = on.stay;
-      own = λ other low. elim (cases_eq other player) [
-        | inl at ↦ subst (λ (m : Meeting). IsPartFor secret b other m.part (put are.parts player (playing part) other))
-            (sym (put_at meetings player other new at))
-            (subst (λ (o : Option Part). IsPartFor secret b other o (put are.parts player (playing part) other)) (sym has)
-            (put_at are.parts player other (playing part) at))
-        | inr off ↦ subst (λ (m : Meeting). IsPartFor secret b other m.part (put are.parts player (playing part) other))
-            (sym (put_off meetings player other new off))
-            (subst (IsPartFor secret b other (meetings other).part) (sym (put_off are.parts player other (playing part) off))
-            (are.own other low))
-      ];
+      own = λ other low. both_put (λ p (m : Meeting) q. IsPartFor secret b p m.part q) meetings are.parts
+          player new part is other (are.own other low);
     };
     given = on.given;
     told = on.told;
   }
 
+  pub moved : (part : Part) (row : Option (List (Option Move))) → new.part ≡ Some part → On (playing part) row
+      → Stay row
+  moved part row has =
+      stays (playing part) row
+      (subst (λ (o : Option Part). IsPartFor secret b player o (playing part)) (sym has) refl)
+
   -- and of the later session this holds
   pub moved_and : (P : Session → Type 0) (part : Part) → new.part ≡ Some part
       → (on : On (playing part) None) × P on.later → (on : Stay None) × P on.later
-  unfolding moved
+  unfolding moved stays
   moved_and P part has (on, holds) = (moved part None has on, holds)
 
   -- what is no matter of the part changes nothing
   pub idle : new.part ≡ (meetings player).part → Stay None
-  idle same = record {
-    later = session;
-    stay = record {
-      parts = are.parts;
-      are = are.are;
-      own = λ other low. elim (cases_eq other player) [
-        | inl at ↦ subst (λ (m : Meeting). IsPartFor secret b other m.part (are.parts other))
-            (sym (put_at meetings player other new at))
-            (subst (λ (o : Option Part). IsPartFor secret b other o (are.parts other))
-            (ap (λ (p : ℕ). (meetings p).part) at ∙ sym same) (are.own other low))
-        | inr off ↦ subst (λ (m : Meeting). IsPartFor secret b other m.part (are.parts other))
-            (sym (put_off meetings player other new off)) (are.own other low)
-      ];
-    };
-    given = record {
-      packets = λ which packet found. found;
-      reports = λ which given found. found;
-      got = λ other which apart. omega arith;
-      ended = λ other was. was;
-      started = λ other was. was;
-    };
-    told = λ other. untold session.told player other;
-  }
+  idle same = stays (are.parts player) None
+      (subst (λ (o : Option Part). IsPartFor secret b player o (are.parts player)) (sym same)
+      (are.own player few))
+      (kept marking (limits_of b.terms) b.terms.settings (game_seal secret b.game) session are.parts player
+      are.are few (are.parts player) refl refl)
 
   -- what a part does, if there is one: where there is none, none is there after it
   pub by_part : (Does : Option Part → Option Part → Type 0) (R : Type 0)

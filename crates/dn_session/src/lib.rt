@@ -12,6 +12,7 @@ mod greeting;
 mod hinting;
 mod host;
 mod joiner;
+mod keeping;
 mod laws;
 mod lead;
 mod meetings;
@@ -41,6 +42,7 @@ pub use greeting::{
 pub use hinting::hinted_bytes;
 pub use host::{Host, HostConfig};
 pub use joiner::{JoinConfig, Joiner, Stage};
+pub use keeping::sessions_keep;
 pub use laws::{
     addresses_move_from_silence, begun_once, calls_without_a_cookie_change_nothing,
     greetings_are_no_envelopes, greetings_are_read_back, heard_is_the_time_of_a_cookie,

@@ -1,29 +1,21 @@
 -- In every game an end that was told past a gap is that of one who has left, and what a give-up or a report
 -- lets a node decide can be taken.
-use Rattle.std.proofs.Common.{◌≡◌, ◌≢◌, ℕ, ℤ, ◌+◌, ◌<◌, ◌≤◌, refl, sym, ap, subst, ◌∙◌, arith, inl, inr, List, ◌∷◌, length, take, negsuc, []}
-use Rattle.std.specs.Prelude.{◌||◌, true, false, Option, Some, None, slice_get, ◌⊎◌, Bool}
-use Rattle.std.specs.List.{list_any}
-use Rattle.std.specs.Option.{option_map}
-use Rattle.std.proofs.lemmas.Bool.{and_parts, both_ways, cases_eq, cases_lt, ne_eqb, cond_both, cond-true, cases_Bool}
-use Rattle.std.proofs.lemmas.Int.{ints}
-use Rattle.std.proofs.lemmas.List.{get_or_default, length-append}
-use Rattle.std.proofs.lemmas.List.Folds.{list_any-append}
+use Rattle.std.proofs.Common.{◌≡◌, ◌≢◌, ℕ, ℤ, ◌+◌, ◌<◌, ◌≤◌, refl, sym, ap, subst, ◌∙◌, arith, inl, inr, List, ◌∷◌, length, take, negsuc, [], ◌||◌, true, false, Option, Some, None, slice_get, ◌⊎◌, Bool, option_map}
+use Rattle.std.proofs.lemmas.Bool.{and_parts, both_ways, cases_lt, ne_eqb, cond_both, cond-true, cases_Bool}
+use Rattle.std.proofs.lemmas.{Int.ints, List.{get_or_default, length-append, Folds.list_any-append}}
 use Rattle.std.proofs.lemmas.Option.{none-some, same_Some}
+use Rattle.std.specs.List.{list_any}
 use Rattle.dn_tic.specs.{declared.command.TicCmd.TicCmd, Inputs.made_by, declared.input.Input.Input, declared.input.Input.TheVariants.Pressed, declared.input.Input.TheVariants.Given}
 use Rattle.dn_tic.proofs.Making.{made_by-forward}
 use Rattle.dn_setup.specs.Settings.{Settings}
-use Rattle.dn_machine.specs.Limits.{IsWindow}
-use Rattle.dn_machine.specs.Node.{blank, ends_of, got, has_left, made, own_mark, ran}
-use Rattle.dn_machine.specs.Worlds.{Rules}
-use Rattle.dn_machine.specs.Promise.{IsPrefixOf}
-use Rattle.dn_machine.specs.Sending.{on_build}
-use Rattle.dn_machine.specs.{declared.answers.Heard.Heard, declared.answers.Phase.Phase, declared.peer.Peer.Peer, Flight.Flight, Hearing.on_packet, Limits.Limits, Node.Node, Node.put, Running.on_quit}
-use Rattle.dn_machine.specs.{Sparing.on_run_but, Sending.on_send, declared.events.Event.Event, Game.Game, Game.own_marks, Game.posted, Game.delivered, Game.on_event, Game.opening_game}
-use Rattle.dn_machine.specs.{declared.events.Event.TheVariants.Build, declared.events.Event.TheVariants.Give, declared.events.Event.TheVariants.Send, declared.events.Event.TheVariants.Deliver}
-use Rattle.dn_machine.specs.{declared.events.Event.TheVariants.Run, declared.events.Event.TheVariants.Quit, declared.events.Event.TheVariants.Stop}
+use Rattle.dn_machine.specs.{Limits.{IsWindow, Limits}, Worlds.Rules, Promise.IsPrefixOf, Sending.{on_build, on_send}}
+use Rattle.dn_machine.specs.{Node.{blank, ends_of, got, has_left, made, own_mark, ran, Node, put}, Flight.Flight}
+use Rattle.dn_machine.specs.declared.{answers.{Heard.Heard, Phase.Phase}, peer.Peer.Peer, events.Event.Event}
+use Rattle.dn_machine.specs.declared.events.Event.TheVariants.{Build, Give, Send, Deliver, Run, Quit, Stop}
+use Rattle.dn_machine.specs.{Hearing.on_packet, Running.on_quit, Sparing.on_run_but}
+use Rattle.dn_machine.specs.Game.{Game, own_marks, posted, delivered, on_event, opening_game}
 use Rattle.dn_machine.proofs.Put.{put_at, put_off, view_kept}
-use Rattle.dn_machine.specs.Node as machine
-use Rattle.dn_machine.proofs.{Calls.build_cases, Calls.packet_cases, Calls.quit_cases, Calls.send_cases}
+use Rattle.dn_machine.proofs.Calls.{build_cases, packet_cases, quit_cases, send_cases}
 use Rattle.dn_remain.specs.{Vanished.Calls.every, Vanished.Calls.is_heard, Vanished.Calls.is_report, Vanished.Calls.is_within_at, Vanished.Commands.Holder, Vanished.Commands.seen, Vanished.Commands.past_seen}
 use Rattle.dn_remain.specs.{Wary.end_seen, Wary.now_of, Wary.reached, Promise.CanBeTaken, Promise.commands_decided, Wary.Report, Wary.Wary, Wary.can_settle, Wary.newest_seen, Wary.report_of}
 use Rattle.dn_remain.specs.{Remaining.Remaining, Remaining.wary_of, Remaining.with_wary, Remaining.Telling, Relaying.RelayEvent, Relaying.RunsRelayed, Wary.is_in_game, Wary.with_gone, Wary.with_report}
@@ -32,17 +24,17 @@ use Rattle.dn_remain.specs.{declared.events.RemainEvent.RemainEvent, Remaining.a
 use Rattle.dn_remain.proofs.{Vanished.Always.always, Vanished.Windows.fits, Vanished.Handing.handed, Vanished.Handing.was_seen, Vanished.Invariant.IsKept, Vanished.Tests.every_at, Followed.IsFollowed}
 use Rattle.dn_remain.proofs.{Followed.AreFollowed, Marked.IsMarked, Followed.there, Taken.taken_of, Seeing.length_rows, Seeing.reached_none, Seeing.reached_some, News.gives, News.here, News.keeps, News.noted}
 use Rattle.dn_remain.proofs.{Relayed.reached_by, Each.run_but_cases, Each.give_up_cases, Each.news_cases, Each.report_cases, Vanished.Invariant.IsLater, Reached.IsReached, Each.IsNoRun, Followed.anchored}
-use Rattle.dn_remain.proofs.{Each.each_event, Each.each_remain, Vanished.Put.at_put}
+use Rattle.dn_remain.proofs.{Each.{each_event, each_remain}, Vanished.Put.at_put}
+use Rattle.dn_lockstep.specs.{Tables.is_stop, Settling.is_other_end}
+use Rattle.dn_lockstep.proofs.Keeping.{none_stops}
+use Rattle.dn_survivor.specs.{OfOthers.AreWithin, Represents.{CanTake, CanTakeAll}}
+use Rattle.dn_survivor.proofs.Waries.{news_gone}
+use Rattle.dn_machine.specs.Node as machine
 use Rattle.dn_remain.specs.Vanished.Node as counted
 use Rattle.dn_remain.proofs.Known
 use Rattle.dn_remain.specs.Relaying as relaying
 use Rattle.dn_remain.proofs.Relayed as relayed
 use Rattle.dn_remain.proofs.Reached
-use Rattle.dn_lockstep.specs.Tables.{is_stop}
-use Rattle.dn_lockstep.specs.Settling.{is_other_end}
-use Rattle.dn_lockstep.proofs.Keeping.{none_stops}
-use Rattle.dn_survivor.specs.{OfOthers.AreWithin, Represents.CanTake, Represents.CanTakeAll}
-use Rattle.dn_survivor.proofs.Waries.{news_gone}
 
 -- In every game an end that was told past a gap is that of one who has left.
 
@@ -85,15 +77,8 @@ module _ (limits : Limits) (me : ℕ) (gone : ℕ → Bool) (node : Node) where
         starts = λ s listens kind p g. inl refl;
         completes = λ word g all p given. inl refl;
         notes = λ word g some p given. inl refl;
-        commands = λ plays. record {
-          dropped = λ number why p g. inl refl;
-          stale = λ l p g. inl (ap (λ (x : Peer). x.end) (put_off node.peers flight.from p _ (another p g)));
-          gap = λ l p g. inl (ap (λ (x : Peer). x.end) (put_off node.peers flight.from p _ (another p g)));
-          takes = λ first high p g. inl (ap (λ (x : Peer). x.end)
-              (put_off node.peers flight.from p _ (another p g)));
-        };
-        requests = λ ended p g. inl (ap (λ (x : Peer). x.end)
-            (put_off node.peers flight.from p _ (another p g)));
+        commands = grind (arith, put_off);
+        requests = λ ended p g. inl (ap (λ (x : Peer). x.end) (put_off node.peers flight.from p _ (another p g)));
       })
     where
       another : (p : ℕ) → gone p ≡ true → p ≢ flight.from
@@ -115,8 +100,7 @@ frozen_after : (limits : Limits) (me : ℕ) (wary : Wary) (old : Node)
 frozen_after limits me wary old same p g = grind (arith, frozen_news, news_gone)
 
 module _ (limits : Limits) (me : ℕ) (wary : Wary) where
-  frozen_report : (from : ℕ) (report : Report)
-      → IsFrozen (on_report limits me wary from report).0.gone wary.node
+  frozen_report : (from : ℕ) (report : Report) → IsFrozen (on_report limits me wary from report).0.gone wary.node
       (on_report limits me wary from report).0.node
   frozen_report from report = report_cases limits me wary (λ (w : Wary). IsFrozen w.gone wary.node w.node) from
       report (λ p g. inl refl)
@@ -163,8 +147,7 @@ module _ {S : Type 0} (rules : Rules S) (all : Remaining) where
   happens (Give node command) n b = one all.gone all.game (on_event rules all.game (Give node command)).0 node _ refl
       (frozen_built rules.limits node (all.gone node) (all.game.nodes node) (Given command))
   happens (Send node to) n b = one all.gone all.game (on_event rules all.game (Send node to)).0 node _
-      (posted_nodes _ _)
-      (frozen_sent rules.limits node (all.gone node) (all.game.nodes node) to)
+      (posted_nodes _ _) (frozen_sent rules.limits node (all.gone node) (all.game.nodes node) to)
   happens (Deliver which) n b = delivers (slice_get all.game.flights which) b
   happens (Run node) n b = absurd n
   happens (Quit node) n b = one all.gone all.game (on_event rules all.game (Quit node)).0 node _ refl
@@ -269,8 +252,7 @@ stands_open : (players : ℕ) (me other : ℕ) (node : counted.Node)
     → newest other ≡ Some report → me < players → node.gone me ≡ false → report.gone me ≡ false
 stands_open players me other node newest report heard apart free is mine own =
     let off = ne_eqb other me apart in
-    let stands : is_report players node.gone report ≡ true =
-    sym (rw (off, free, is) refl) ∙ heard in
+    let stands : is_report players node.gone report ≡ true = sym (rw (off, free, is) refl) ∙ heard in
     let parts = and_parts (every players (is_within_at report.gone node.gone))
     (report.left || every players (is_within_at node.gone report.gone)) stands in
     let within = every_at players (is_within_at report.gone node.gone) me parts.0 mine in
@@ -280,8 +262,7 @@ module _ {S : Type 0} (rules : Rules S) (window : IsWindow rules.limits) (all : 
     (older : List (ℕ → Holder TicCmd)) (f : IsFollowed Known.known rules all older) (q : ℕ)
     (mine : q < rules.players) (here : has_left (all.game.nodes q) ≡ false)
     (can : can_settle rules.limits q (wary_of all q) ≡ true) (taken : CanBeTaken rules.limits all q)
-    (ended : AreEnded all)
-    (fair : (p : ℕ) → list_any is_stop ((all.game.nodes p).held p) ≡ false) where
+    (ended : AreEnded all) (fair : (p : ℕ) → list_any is_stop ((all.game.nodes p).held p) ≡ false) where
   kept : IsKept rules.players (past_seen (now_of all.game all.gone ∷ older))
   kept = always rules.players rules.ahead (past_seen (now_of all.game all.gone ∷ older)) f.follows.run
 
@@ -359,11 +340,7 @@ module _ (all : Remaining) (q : ℕ) (wary : Wary) (peers : wary.node.peers ≡ 
   placed_ended here ended x p e is past =
       let k = ended x p e (sym (ends_at_all x p) ∙ is)
       (subst (λ (cs : List TicCmd). length cs < e) (held_at_all x p) past) in
-      elim (cases_eq p q) [
-        | inl same ↦ absurd (both_ways (has_left (all.game.nodes p))
-            (ap (λ (j : ℕ). has_left (all.game.nodes j)) same ∙ here) k.0)
-        | inr other ↦ grind (arith, put_off, held_at_all)
-      ]
+      grind (arith, both_ways, has_left, here, put_off, held_at_all)
 
   placed_fair : ((p : ℕ) → list_any is_stop ((all.game.nodes p).held p) ≡ false) → (p : ℕ)
       → list_any is_stop (((with_wary all q wary).game.nodes p).held p) ≡ false
@@ -377,8 +354,7 @@ all_fair : {S : Type 0} (rules : Rules S) (settings : Settings) (me : ℕ) (node
     → IsMarked rules settings me node → rules.ahead ≤ 12 → list_any is_stop (node.held me) ≡ false
 all_fair rules settings me node marked back = none_stops (node.held me) (λ tic d low e.
     let own = get_or_default (node.held me) tic d blank low ∙ marked.own back tic low in
-    goes_on (take (tic + 1) node.inputs) (own_mark node me tic)
-    (sym (ap (λ (c : TicCmd). c.forward) own) ∙ e))
+    goes_on (take (tic + 1) node.inputs) (own_mark node me tic) (sym (ap (λ (c : TicCmd). c.forward) own) ∙ e))
 
 -- what a node that is put there decides can be taken
 placed_can_take : {S : Type 0} (rules : Rules S) → IsWindow rules.limits → (all : Remaining) (q : ℕ) (wary : Wary)

@@ -1,22 +1,14 @@
 -- The ends of all who are given up, as `dn_remain` decides them.
-use Rattle.std.proofs.Common.{◌≡◌, ◌+◌, ℕ, refl, subst, ◌∙◌, add-one, ◌≤◌, ◌-◌, false, List, ◌++◌, length, take, drop, sym, ap, arith, ◌≢◌, ◌<◌, zero, suc, Bool, true, inl, inr, Option, Some, None}
-use Rattle.std.specs.Prelude.{◌||◌, max, if◌then◌else◌}
+use Rattle.std.proofs.Common.{◌≡◌, ◌+◌, ℕ, refl, subst, ◌∙◌, add-one, ◌≤◌, ◌-◌, false, List, ◌++◌, length, take, drop, sym, ap, arith, ◌≢◌, ◌<◌, zero, suc, Bool, true, Option, Some, None, ◌||◌, max, if◌then◌else◌, length-append, unwrap_or}
+use Rattle.std.proofs.{Math.Seq.take-length, lemmas.List.Folds.list_any-append}
+use Rattle.std.proofs.lemmas.Bool.{both_ways, cond-true, cond-false}
 use Rattle.std.specs.List.{list_any}
-use Rattle.std.proofs.Math.Seq.{take-length}
-use Rattle.std.proofs.lemmas.List.{length-append}
-use Rattle.std.proofs.lemmas.List.Folds.{list_any-append}
-use Rattle.std.specs.Option.{unwrap_or}
-use Rattle.std.proofs.lemmas.Bool.{cases_Bool, both_ways, cond-true, cond-false}
 use Rattle.dn_machine.specs.{Limits.Limits, Node.ends_of, Node.is_ended, Settling.settled_one, declared.answers.Phase.Phase, Node.got, Node.ran, Settling.settled_to}
-use Rattle.dn_lockstep.specs.Contents.{Contents}
-use Rattle.dn_lockstep.specs.Steps.{IsAfter, Steps}
-use Rattle.dn_lockstep.specs.declared.lockstep.settling.Settled.{Settled}
-use Rattle.dn_lockstep.specs.Phases.{is_listening}
-use Rattle.dn_lockstep.specs.Tables.{is_stop}
-use Rattle.dn_lockstep.specs.Settling.{has_gap, is_no_peer, is_other_end}
-use Rattle.dn_lockstep.specs.{Settling.missing, Settling.on_settle}
+use Rattle.dn_lockstep.specs.{Contents.Contents, Steps.{IsAfter, Steps}, declared.lockstep.settling.Settled.Settled}
+use Rattle.dn_lockstep.specs.{Phases.is_listening, Tables.is_stop}
+use Rattle.dn_lockstep.specs.Settling.{has_gap, is_no_peer, is_other_end, missing, on_settle}
 use Rattle.dn_survivor.specs.{declared.others.Others.Others, declared.answers.Ends.Ends, Calls.settled_below, Calls.settled_with, Calls.end_by, Calls.settled_by, Represents.CanTakeAll, OfOthers.commands_of}
-use Rattle.dn_survivor.specs.{OfOthers.first_of, OfOthers.has, OfOthers.nodes_of, OfOthers.own_of, OfOthers.told_of}
+use Rattle.dn_survivor.specs.OfOthers.{first_of, has, nodes_of, own_of, told_of}
 use Rattle.dn_tic.specs.declared.command.TicCmd.{TicCmd}
 use Rattle.dn_machine.proofs.Put.{put_off}
 use Rattle.dn_lockstep.proofs.Wholes.{in_turn}
@@ -58,9 +50,7 @@ module _ (limits : Limits) (me player first : ℕ) (m : machine.Node) (commands 
       → on_settle limits me m player (length decided) first commands
       ≡ (settled_one m player decided, Settled.Taken (length decided - machine.got m player))
   settles peer within room fair same =
-      let many : length behind ≡ length decided - machine.got m player = omega (arith, counts) in
-      wholes.settles limits me player first m commands decided behind whole missing_is no_gap peer within room
-      (clear fair) same ∙ ap (λ (k : ℕ). (settled_one m player decided, Settled.Taken k)) many
+      grind (arith, behind, counts, wholes.settles, commands, missing_is, no_gap, clear)
 
 -- who is in a game neither listens nor has ended
 pub in_game : (phase : Phase) → is_in_game phase ≡ true → (is_listening phase || is_ended phase) ≡ false
@@ -84,10 +74,7 @@ unfolding settled_to
 leaves zero gone commands m = record { held = λ p h. refl; peers = λ p h. refl; rows = refl; phase = refl }
 leaves (suc bound) gone commands m =
     let before = leaves bound gone commands m in
-    elim (cases_Bool (gone bound)) [
-      | inl on ↦ grind (arith, put_off)
-      | inr off ↦ grind arith
-    ]
+    grind (arith, put_off)
 
 module _ (limits : Limits) (me : ℕ) (kept : Others) (wary : Wary) (mine : me < limits.players)
     (r : others.Represents limits.players limits.places me kept wary.gone wary.newest)
@@ -106,8 +93,7 @@ module _ (limits : Limits) (me : ℕ) (kept : Others) (wary : Wary) (mine : me <
   lists_are : lists ≡ same_lists
   lists_are = λ i o. fresh_is (wary.newest o) i
 
-  decided_is : (player : ℕ) → commands player
-      ≡ (on_decision limits.players me (report_of wary) lists).held player
+  decided_is : (player : ℕ) → commands player ≡ (on_decision limits.players me (report_of wary) lists).held player
   decided_is player = λ i. (on_decision limits.players me (report_of wary) (sym lists_are i)).held player
 
   -- one who is given up is another player of the game
@@ -148,18 +134,13 @@ module _ (limits : Limits) (me : ℕ) (kept : Others) (wary : Wary) (mine : me <
         let end : end_by limits me kept player m ≡ length (commands player) =
         ap (λ (o : List TicCmd). decided_end limits.players me (own_of kept (λ p. length o)) (told_of kept) player) held
         ∙ (agreeing.ends limits.players limits.places me kept wary.gone wary.newest r (report_of wary) refl player low
-        other given
-        ∙ ap length (sym (decided_is player))) in
+        other given ∙ ap length (sym (decided_is player))) in
         let room : length (commands player) ≤ ran m + limits.places =
         subst (λ (k : ℕ). length (commands player) ≤ k + limits.places) (sym before.rows) take.room in
         let within : (is_listening m.phase || is_ended m.phase) ≡ false =
         ap (λ (p : Phase). is_listening p || is_ended p) before.phase ∙ in_game wary.node.phase here in
         let same : is_other_end (ran m) (ends_of m player) (length (commands player)) ≡ false = grind arith in
-        ap (λ (k : ℕ). on_settle limits me m player k (first_of limits.players me kept player)
-        (commands_of limits.players me kept player)) end
-        ∙ settles limits me player (first_of limits.players me kept player) m
-        (commands_of limits.players me kept player) (commands player) enough.0 enough.1 enough.2
-        (peers player given) within room take.fair same
+        grind (arith, on_settle, first_of, settles, commands, take.fair)
 
     all : (bound : ℕ) → bound ≤ limits.players → settled_below limits me kept bound wary.node
         ≡ (settled_to bound wary.gone commands wary.node, Ends.Taken)
@@ -169,11 +150,7 @@ module _ (limits : Limits) (me : ℕ) (kept : Others) (wary : Wary) (mine : me <
         let before = all bound (omega (arith, most)) in
         let alike : has kept.gone bound ≡ wary.gone bound = r.given_up bound (omega (arith, most)) in
         let so_far : machine.Node = settled_to bound wary.gone commands wary.node in
-        ap (settled_with limits me kept bound) before
-        ∙ elim (cases_Bool (wary.gone bound)) [
-          | inl on ↦ grind (arith, cond-true, one, leaves)
-          | inr off ↦ grind (arith, cond-false)
-        ]
+        grind (arith, cond-true, one, leaves, cond-false)
 
     -- all of them: the node that has decided
     pub decides : settled_below limits me kept limits.players wary.node
@@ -193,18 +170,16 @@ module _ (limits : Limits) (me : ℕ) (kept : Others) (wary : Wary) (mine : me <
 
 -- what two calls make of a node
 pub chain : {A B : Type 0} {old mid new : Contents} {done : A} {last : B}
-    (first : Limits → ℕ → machine.Node → machine.Node × A)
-    (next : Limits → ℕ → machine.Node × A → machine.Node × B)
+    (first : Limits → ℕ → machine.Node → machine.Node × A) (next : Limits → ℕ → machine.Node × A → machine.Node × B)
     → Steps old mid first (λ a. done ≡ a) → Steps mid new (λ limits me m. next limits me (m, done)) (λ b. last ≡ b)
     → Steps old new (λ limits me m. next limits me (first limits me m)) (λ b. last ≡ b)
-chain {A} {B} {old} {mid} {new} {done} {last} first next one two =
-    record {
-      same = two.same ∙ one.same;
-      step = λ limits me m r.
-          let a = one.step limits me m r in
-          let P : A → Type 0 = λ x. IsAfter limits me new (next limits me ((first limits me m).0, x)) (λ b. last ≡ b) in
-          subst P a.answer (two.step limits me (first limits me m).0 a.node);
-    }
+chain {A} {B} {old} {mid} {new} {done} {last} first next one two = record {
+  same = two.same ∙ one.same;
+  step = λ limits me m r.
+      let a = one.step limits me m r in
+      let P : A → Type 0 = λ x. IsAfter limits me new (next limits me ((first limits me m).0, x)) (λ b. last ≡ b) in
+      subst P a.answer (two.step limits me (first limits me m).0 a.node);
+}
 
 module _ (limits : Limits) (me : ℕ) (others : Others) (m : machine.Node) where
   pub below_zero : settled_below limits me others 0 m ≡ (m, Ends.Taken)

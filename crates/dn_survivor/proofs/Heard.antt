@@ -1,19 +1,17 @@
 -- What is answered in a game of survivors: what a survivor answers for its node, and in a game.
-use Rattle.std.proofs.Common.{◌≡◌, ◌<◌, ℕ, true, false, sym, ◌∙◌, inl, inr, arith}
-use Rattle.std.specs.Prelude.{◌⊎◌, Some, slice_get}
+use Rattle.std.proofs.Common.{◌≡◌, ◌<◌, ℕ, true, false, sym, ◌∙◌, inl, inr, arith, ◌⊎◌, Some, slice_get}
 use Rattle.std.proofs.lemmas.Bool.{both_ways, cond-false}
 use Rattle.dn_setup.specs.Settings.{Settings}
-use Rattle.dn_machine.specs.{declared.answers.Heard.Heard, Flight.Flight, Flight.is_near, Limits.Limits}
-use Rattle.dn_machine.specs.Drops as drops
-use Rattle.dn_remain.specs.{Remaining.wary_of, Remaining.heard_of}
-use Rattle.dn_remain.specs.Wary.{Report, on_give_up, on_report, Wary}
-use Rattle.dn_remain.specs.declared.events.GivenUp as remain_given
-use Rattle.dn_remain.specs.declared.events.Reported as remain_reported
+use Rattle.dn_machine.specs.{declared.answers.Heard.Heard, Flight.{Flight, is_near}, Limits.Limits}
+use Rattle.dn_remain.specs.{Remaining.{wary_of, heard_of}, Wary.{Report, on_give_up, on_report, Wary}}
 use Rattle.dn_lockstep.specs.{Hearing.HearsNear, Marking.Marking, Sent.bytes_of, Told.made, declared.lockstep.settling.Settled.Settled}
 use Rattle.dn_survivor.specs.{Calls.GivesUp, Calls.HearsReport, OneGame.AreRemaining, Represents.reported_is, OneGame.Given, OneGame.Session, Surviving.Surviving, Surviving.has_given_up}
 use Rattle.dn_survivor.specs.{declared.answers.GivenUp.GivenUp, declared.answers.Reported.Reported, Represents.given_up_is}
-use Rattle.dn_survivor.proofs.OneGame as game_of
 use Rattle.dn_survivor.proofs.Pairs.{steady}
+use Rattle.dn_machine.specs.Drops as drops
+use Rattle.dn_remain.specs.declared.events.GivenUp as remain_given
+use Rattle.dn_remain.specs.declared.events.Reported as remain_reported
+use Rattle.dn_survivor.proofs.OneGame as game_of
 
 -- What a survivor answers for its node: each end that the node decides is taken, and no report is improper.
 
@@ -53,8 +51,7 @@ module _ (marking : Marking) (limits : Limits) (settings : Settings) (session : 
       (game_of.gave_up_is marking limits settings game here mine player new (GivenUp.Untaken other reason) by).1
 
   module _ (which : ℕ) (given : Given) (at : slice_get session.reports which ≡ Some given) (new : Surviving) where
-    is_reported : (answer : Reported)
-        → HearsReport given.from given.report (session.survivors given.to) new answer
+    is_reported : (answer : Reported) → HearsReport given.from given.report (session.survivors given.to) new answer
         → answer ≡ reported_is (on_report limits given.to (wary_of game.last given.to) given.from
         (game_of.holder marking limits settings game which given at)).1
     is_reported answer by = (game_of.reported marking limits settings game which given at new answer by).1
@@ -64,11 +61,7 @@ module _ (marking : Marking) (limits : Limits) (settings : Settings) (session : 
     reported_taken other reason by = grind (arith, taken_reported, is_reported)
 
     pub not_excluded : HearsReport given.from given.report (session.survivors given.to) new Reported.Excluded → ⊥
-    not_excluded by =
-        not_out limits given.to (wary_of game.last given.to) given.from
-        (game_of.holder marking limits settings game which given at)
-        (game_of.to_one marking limits settings game which given at).1
-        (is_excluded _ (is_reported Reported.Excluded by))
+    not_excluded by = grind (arith, not_out, game_of.to_one, is_excluded, is_reported)
 
     pub proper : HearsReport given.from given.report (session.survivors given.to) new Reported.Improper → ⊥
     proper by = never_improper _ (is_reported Reported.Improper by)
@@ -80,18 +73,7 @@ module _ (marking : Marking) (limits : Limits) (settings : Settings) (session : 
     reports_dropped number by =
         let told = game_of.told_at marking limits settings game which given at in
         let to_it = (game_of.to_one marking limits settings game which given at).0 in
-        elim ((steady marking limits settings session game).reports which (record {
-          from = given.from;
-          to = given.to;
-          report = game_of.holder marking limits settings game which given at;
-        }) number (game_of.there_at marking limits settings game which given at)
-        (is_dropped _ number (is_reported (Reported.Dropped number) by))) [
-          | inl out ↦ inl out
-          | inr gone ↦ inr (
-            gone.0,
-            (game.nodes given.to to_it).others.given_up given.from told.2.sender ∙ gone.1,
-          )
-        ]
+        grind (arith, steady, game_of.there_at, is_dropped, is_reported)
 
   -- a packet that was given
   module _ (which : ℕ) (packet : Flight) (at : slice_get session.packets which ≡ Some packet) (new : Surviving)
@@ -99,8 +81,7 @@ module _ (marking : Marking) (limits : Limits) (settings : Settings) (session : 
       (free : has_given_up (session.survivors packet.to) packet.from ≡ false) where
     pub packets_dropped : (number : ℕ)
         → HearsNear packet.from (bytes_of packet) (session.survivors packet.to).lockstep new.lockstep
-        (Heard.Dropped number)
-        → (number ≡ drops.out_of_place) ⊎ (number ≡ drops.not_playing)
+        (Heard.Dropped number) → (number ≡ drops.out_of_place) ⊎ (number ≡ drops.not_playing)
     packets_dropped number by =
         let told = game_of.told_there marking limits settings game which packet at in
         let there = game_of.given_there marking limits settings game which packet at in
@@ -112,8 +93,5 @@ module _ (marking : Marking) (limits : Limits) (settings : Settings) (session : 
         cond-false (game.last.gone packet.to packet.from) _ _ off ∙ sym heard.answer in
         elim ((steady marking limits settings session game).kept which packet number there is) [
           | inl place ↦ inl place
-          | inr rest ↦ elim rest [
-            | inl out ↦ inr out
-            | inr gone ↦ absurd (both_ways (game.last.gone packet.to packet.from) off gone.1)
-          ]
+          | inr rest ↦ grind (arith, both_ways)
         ]

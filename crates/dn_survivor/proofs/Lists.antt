@@ -1,19 +1,11 @@
 -- The last of a list, what is told of several players, and rows of the moves that inputs make.
-use Rattle.std.proofs.Common.{◌≡◌, ◌≢◌, ◌<◌, ◌≤◌, ◌+◌, ◌-◌, ℕ, zero, suc, List, [], ◌∷◌, ◌++◌, length, drop, get_or, refl, add-one, sym, ap, subst, ◌∙◌, arith, inl, inr, Option, Some, None, ℤ, Bool, false, cond, ltb}
-use Rattle.std.specs.Prelude.{All, ◌&&◌, nat_lt, nat_le, min, max, if◌then◌else◌}
-use Rattle.std.specs.List.{cons_option, filter_map, range_with_len, take_while}
-use Rattle.std.specs.Option.{option_to_list, option_map}
-use Rattle.std.proofs.Math.Nat.{max-eq_left, max-eq_right}
-use Rattle.std.proofs.Math.Seq.{drop-cons}
+use Rattle.std.proofs.Common.{◌≡◌, ◌≢◌, ◌<◌, ◌≤◌, ◌+◌, ◌-◌, ℕ, zero, suc, List, [], ◌∷◌, ◌++◌, length, drop, get_or, refl, add-one, sym, ap, subst, ◌∙◌, arith, inl, inr, Option, Some, None, ℤ, Bool, false, cond, ltb, All, ◌&&◌, nat_lt, nat_le, min, max, if◌then◌else◌, option_to_list, option_map, drop-cons, get_or-take}
+use Rattle.std.proofs.{Math.Nat.{max-eq_left, max-eq_right}, lemmas.{Bool.cond-true, List.Folds.length-prefix_len}}
 use Rattle.std.proofs.lemmas.{Bool.cases_eq, Bool.cases_lt, Bool.le-leb, Bool.lt-ltb, Bool.lt-leb, List.drop_all, List.Elements.All-append, Option.none-some}
-use Rattle.std.proofs.lemmas.Bool.{cond-true}
-use Rattle.std.proofs.lemmas.List.{get_or-take}
-use Rattle.std.proofs.lemmas.List.Folds.{length-prefix_len}
-use Rattle.dn_tic.specs.declared.command.TicCmd.{TicCmd}
-use Rattle.dn_tic.specs.{Pressed.pressed, Inputs.last_input, Inputs.made_of, Inputs.made_by, Command.used, declared.command.Move.Move, declared.input.Input.Input, declared.input.Input.TheVariants.Pressed}
-use Rattle.dn_tic.specs.{declared.input.Input.TheVariants.Given}
-use Rattle.dn_machine.specs.Node.{blank, lacks}
-use Rattle.dn_machine.specs.{Limits.row_of}
+use Rattle.std.specs.List.{cons_option, filter_map, range_with_len, take_while}
+use Rattle.dn_tic.specs.declared.{command.{TicCmd.TicCmd, Move.Move}, input.Input.{Input, TheVariants.{Given, Pressed}}}
+use Rattle.dn_tic.specs.{Pressed.pressed, Inputs.{last_input, made_of, made_by}, Command.used}
+use Rattle.dn_machine.specs.{Node.{blank, lacks}, Limits.row_of}
 use Rattle.dn_lockstep.proofs.DemosAgreeing.{seat_at}
 
 -- no move has a mark
@@ -68,8 +60,7 @@ lasts_from places xs (suc count) from e =
           let next : max (from + 1) (length xs - places) ≡ suc from =
           max-eq_left (omega (arith, near)) ∙ add-one from in
           rw (low, on, here) (ap (λ (ys : List TicCmd). get_or xs from blank ∷ ys)
-          (rest ∙ ap (λ (k : ℕ). drop k xs) next)
-          ∙ sym (drop-cons xs from blank (omega (arith, e))))
+          (rest ∙ ap (λ (k : ℕ). drop k xs) next) ∙ sym (drop-cons xs from blank (omega (arith, e))))
       | inl far ↦ grind (arith, lt-leb, max-eq_right)
     ]
 
@@ -98,8 +89,7 @@ picks_next {A} f (suc count) from =
     ∙ onto (f from) (filter_map f (range_with_len (from + 1) count)) (option_to_list (f (from + suc count)))
 
 pub picks_more : {A : Type 0} (f : ℕ → Option A) (from count next at : ℕ) → next ≡ count + 1 → at ≡ from + count
-    → filter_map f (range_with_len from next)
-    ≡ filter_map f (range_with_len from count) ++ option_to_list (f at)
+    → filter_map f (range_with_len from next) ≡ filter_map f (range_with_len from count) ++ option_to_list (f at)
 picks_more f from count next at is place = grind (arith, picks_next)
 
 longer : {A : Type 0} (o : Option A) (xs : List A) → length (cons_option o xs) ≤ length xs + 1
@@ -124,14 +114,13 @@ no_longer (Some x) xs e = absurd (none-some x (sym e))
 pub one_less : {A : Type 0} (f : ℕ → Option A) (count from p : ℕ) → f p ≡ None → from ≤ p → p < from + count
     → length (filter_map f (range_with_len from count)) + 1 ≤ count
 one_less f zero from p none low high = absurd (omega (arith, low, high))
-one_less f (suc count) from p none low high =
-    elim (cases_eq from p) [
-      | inl same ↦ grind (arith, picks_few, no_longer)
-      | inr other ↦
-          let rest = one_less f count (from + 1) p none (omega (arith, low, other)) (omega (arith, high)) in
-          let here = longer (f from) (filter_map f (range_with_len (from + 1) count)) in
-          omega (arith, rest, here)
-    ]
+one_less f (suc count) from p none low high = elim (cases_eq from p) [
+  | inl same ↦ grind (arith, picks_few, no_longer)
+  | inr other ↦
+      let rest = one_less f count (from + 1) p none (omega (arith, low, other)) (omega (arith, high)) in
+      let here = longer (f from) (filter_map f (range_with_len (from + 1) count)) in
+      omega (arith, rest, here)
+]
 
 -- and two less, where nothing is of two
 pub two_less : {A : Type 0} (f : ℕ → Option A) (count from p q : ℕ) → p ≢ q → f p ≡ None → f q ≡ None

@@ -1,19 +1,14 @@
 -- The lowest number that passes a test, and the largest of some numbers.
-use Rattle.std.proofs.Common.{◌≡◌, ◌<◌, ◌+◌, ℕ, zero, suc, refl, ap, sym, ◌∙◌, arith, inl, inr, Option, Some, None, Bool, true, false, not, ◌⊎◌, ◌≤◌}
-use Rattle.std.specs.Option.{IfSome, is_some}
-use Rattle.std.specs.Prelude.{◌&&◌, max}
+use Rattle.std.proofs.Common.{◌≡◌, ◌<◌, ◌+◌, ℕ, zero, suc, refl, ap, sym, ◌∙◌, arith, inl, inr, Option, Some, None, Bool, true, false, not, ◌⊎◌, ◌≤◌, IfSome, is_some, ◌&&◌, max}
 use Rattle.std.proofs.lemmas.Bool.{both_ways, cases_Bool, true≢false, cases_eq, cases_lt, lt-ltb, le-ltb}
 use Rattle.std.proofs.Math.Nat.{max-eq_left, max-eq_right}
 use Rattle.dn_machine.specs.Node.{lowest}
-use Rattle.dn_remain.specs.Vanished.Calls.{every}
-use Rattle.dn_remain.proofs.Vanished.Tests.{every_at}
-use Rattle.dn_remain.specs.Vanished.Node.{highest}
-use Rattle.dn_remain.proofs.Vanished.Put.{highest_bounds, highest_reached}
+use Rattle.dn_remain.specs.Vanished.{Calls.every, Node.highest}
+use Rattle.dn_remain.proofs.Vanished.{Tests.every_at, Put.{highest_bounds, highest_reached}}
 use Rattle.dn_lockstep.proofs.Lowest.{lowest_found}
 use Rattle.dn_survivor.specs.OfOthers.{largest_at}
 
-pub lowest_none : (bound : ℕ) (test : ℕ → Bool) → ((p : ℕ) → p < bound → test p ≡ false)
-    → lowest bound test ≡ None
+pub lowest_none : (bound : ℕ) (test : ℕ → Bool) → ((p : ℕ) → p < bound → test p ≡ false) → lowest bound test ≡ None
 unfolding lowest
 lowest_none zero test none = refl
 lowest_none (suc bound) test none =
@@ -105,14 +100,12 @@ pub largest_of_both : (n m at one last : ℕ) (f : ℕ → ℕ) → m ≡ n + 1 
 largest_of_both n m at one last f is there here next = grind (arith, largest_last, largest_stays)
 
 -- it is one of them, and none is larger
-pub largest_is : (n : ℕ) (f : ℕ → ℕ) → 0 < n
-    → (largest_at n f < n) × ((i : ℕ) → i < n → f i ≤ f (largest_at n f))
+pub largest_is : (n : ℕ) (f : ℕ → ℕ) → 0 < n → (largest_at n f < n) × ((i : ℕ) → i < n → f i ≤ f (largest_at n f))
 largest_is zero f some = absurd (omega (arith, some))
-largest_is (suc zero) f some =
-    elim (largest_of_both 0 1 0 (f 0) (f 0) f refl (sym (no_largest f)) refl refl) [
-      | inl more ↦ absurd (omega (arith, more.0))
-      | inr most ↦ grind arith
-    ]
+largest_is (suc zero) f some = elim (largest_of_both 0 1 0 (f 0) (f 0) f refl (sym (no_largest f)) refl refl) [
+  | inl more ↦ absurd (omega (arith, more.0))
+  | inr most ↦ grind arith
+]
 largest_is (suc (suc n)) f some =
     let before = largest_is (suc n) f (omega arith) in
     let at : ℕ = largest_at (suc n) f in
@@ -133,11 +126,5 @@ highest_of_two n me own f g below here none same =
       | inl e ↦ omega (arith, ap g e, none)
       | inr other ↦ omega (arith, highest_bounds n f at is.0, same at is.0 other)
     ] in
-    let reached : (highest n f ≤ own) ⊎ (highest n f ≤ g at) = elim (cases_eq top.0 me) [
-      | inl e ↦ inl (omega (arith, top.2, ap f e, here))
-      | inr other ↦ inr (omega (arith, top.2, same top.0 top.1 other, is.1 top.0 top.1))
-    ] in
-    elim (cases_lt own (g at)) [
-      | inl less ↦ grind (arith, max-eq_right)
-      | inr more ↦ grind (arith, max-eq_left)
-    ]
+    let reached : (highest n f ≤ own) ⊎ (highest n f ≤ g at) = grind arith in
+    grind (arith, cases_lt, max-eq_right, max-eq_left)

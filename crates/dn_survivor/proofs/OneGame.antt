@@ -1,61 +1,34 @@
 -- The survivors of one game stay those of one game, call by call.
-use Rattle.std.proofs.Common.{◌-◌}
-use Rattle.std.proofs.lemmas.Bool.{ltb-true, ltb-false}
-use Rattle.std.specs.Prelude.{map}
-use Rattle.dn_setup.specs.Settings.{IsSettings}
-use Rattle.dn_machine.specs.Started.{started_node, start_events}
-use Rattle.dn_machine.proofs.Started.{comes_there}
-use Rattle.dn_lockstep.specs.Opening.{IsGame}
-use Rattle.dn_lockstep.proofs.OneGame.{start_fair}
-use Rattle.dn_remain.proofs.Quiet.{stays_quiet}
-use Rattle.dn_remain.proofs.Relayed.{as_relayed}
-use Rattle.dn_remain.specs.Relaying.{Own as plain}
-use Rattle.dn_survivor.specs.Represents.{nobody_gone}
-use Rattle.dn_survivor.specs.OneGame.{started_session}
-use Rattle.std.proofs.Common.{◌≡◌, ◌≢◌, ◌<◌, ◌≤◌, ℕ, ℤ, pos, Bool, true, false, List, [], ◌∷◌, ◌++◌, Option, Some, None, refl, ap, sym, ◌∙◌, subst, arith, inl, inr}
-use Rattle.std.specs.Prelude.{nat_lt, get_or, slice_get, if◌then◌else◌, IfSome}
-use Rattle.std.specs.Option.{option_map}
-use Rattle.std.proofs.lemmas.Bool.{cases_Bool, cases_lt, both_ways, cond-true, lt-ltb, le-ltb}
-use Rattle.std.proofs.lemmas.Option.{none-some}
-use Rattle.dn_tic.specs.{declared.command.Move.Move, declared.command.TicCmd.TicCmd, declared.input.Input.Input, declared.input.Input.TheVariants.Pressed, declared.input.Input.TheVariants.Given as Handed}
-use Rattle.dn_survivor.specs.{declared.report.Report.Report as Told, OfOthers.nothing_kept, Telling.MayRelay, Telling.told_gone, Calls.GivesUp, Calls.HearsReport, Calls.sent_unless, OneGame.AreRemaining}
-use Rattle.dn_survivor.specs.{OneGame.AreTelling, OneGame.IsGivenAs, OneGame.IsTelling, Represents.Represents, Represents.given_up_is, Represents.reported_is, Surviving.Surviving, Surviving.has_given_up}
-use Rattle.dn_survivor.specs.{Telling.report_for, declared.answers.GivenUp.GivenUp, declared.answers.Reported.Reported, OneGame.Given, OneGame.Session, OneGame.after_build, OneGame.after_packet, OneGame.after_relays}
-use Rattle.dn_survivor.specs.{OneGame.after_report, OneGame.opening_session, OneGame.with_survivor}
-use Rattle.dn_setup.specs.Settings.{Settings}
-use Rattle.dn_machine.specs.declared.answers.Heard.{Heard}
-use Rattle.dn_machine.specs.declared.answers.Made.{Made}
-use Rattle.dn_machine.specs.declared.answers.Ran.{Ran}
-use Rattle.dn_machine.specs.declared.events.Event.{Event}
-use Rattle.dn_machine.specs.declared.events.Refusal.{Refusal}
-use Rattle.dn_machine.specs.declared.peer.Peer.{Peer}
-use Rattle.dn_machine.specs.Sending.{on_build}
+use Rattle.std.proofs.Common.{◌-◌, ltb-true, ltb-false, map, ◌≡◌, ◌≢◌, ◌<◌, ◌≤◌, ℕ, ℤ, pos, Bool, true, false, List, [], ◌∷◌, ◌++◌, Option, Some, None, refl, ap, sym, ◌∙◌, subst, arith, inl, inr, nat_lt, get_or, slice_get, if◌then◌else◌, IfSome, option_map}
+use Rattle.std.proofs.lemmas.{Bool.{cases_Bool, cases_lt, both_ways, cond-true, lt-ltb, le-ltb}, Option.none-some}
+use Rattle.dn_setup.specs.Settings.{IsSettings, Settings}
+use Rattle.dn_machine.specs.{Started.{started_node, start_events}, declared.answers.{Heard.Heard, Made.Made, Ran.Ran}}
+use Rattle.dn_machine.specs.{declared.{events.{Event.Event, Refusal.Refusal}, peer.Peer.Peer}, Sending.on_build}
+use Rattle.dn_machine.specs.Game.{applied_if, delivered, on_event}
 use Rattle.dn_machine.specs.{Flight.Flight, Flight.is_near, Hearing.on_packet, Limits.Limits, Limits.IsWindow, Node.put, Node.is_ended, Progress.build_of, Running.is_over, Running.on_quit, Sparing.on_run_but}
 use Rattle.dn_machine.specs.{Worlds.Inputs, Worlds.Rules, Relaying.packet_of_one, Relaying.relayed, Relaying.with_relayed, declared.events.Event.TheVariants.Send, declared.events.Event.TheVariants.Deliver}
 use Rattle.dn_machine.specs.{declared.events.Event.TheVariants.Run, declared.events.Event.TheVariants.Quit, Game.fresh, Game.opening_game, Game.own_marks, Game.refused_at, Game.refused_flight, Game.refused, Game.applied}
-use Rattle.dn_machine.specs.{Game.applied_if, Game.delivered, Game.on_event}
-use Rattle.dn_machine.proofs.GoingOn.{accepted_build}
-use Rattle.dn_machine.proofs.Put.{put_at, put_off}
-use Rattle.dn_lockstep.specs.Contents.{Contents, end_in}
-use Rattle.dn_lockstep.specs.Hearing.{HearsNear, Spares}
-use Rattle.dn_lockstep.specs.Marking.{History, Marking}
-use Rattle.dn_lockstep.specs.Sent.{IsFair}
-use Rattle.dn_lockstep.specs.OneGame.{beside, world_told}
-use Rattle.dn_lockstep.specs.Rows.{is_gone}
-use Rattle.dn_lockstep.specs.Steps.{RunsBy}
-use Rattle.dn_lockstep.specs.Steps.{marks_in, Steps, Tells, IsAfter}
-use Rattle.dn_lockstep.specs.Sent.{bytes_of, sent_to}
-use Rattle.dn_lockstep.specs.OneGame.{given_on, taken_on, told_on}
-use Rattle.dn_lockstep.specs.Told.{made, command_told}
-use Rattle.dn_lockstep.proofs.Shown.{got_is, tells_held}
-use Rattle.dn_lockstep.proofs.Running.{but_same, but_tells, kept_same}
-use Rattle.dn_lockstep.proofs.OneGame.{IsQuiet, Rows, build_inputs, build_rows, fair_on}
-use Rattle.dn_lockstep.proofs.{OneGame.hear_quiet, OneGame.not_past, OneGame.own_is, OneGame.quit_quiet, OneGame.send_quiet, OneGame.sent_between}
-use Rattle.dn_remain.specs.{Vanished.Commands.Holder, Remaining.NextRemain, Wary.Report, Wary.Wary, Wary.on_give_up, Wary.on_report, Wary.report_to, declared.events.RemainEvent.RemainEvent, Wary.now_of}
-use Rattle.dn_remain.specs.{Remaining.Remaining, Remaining.Telling, Remaining.wary_of, Remaining.with_wary, Remaining.with_telling, Remaining.unless, Remaining.after_event, Remaining.after_hearing, Remaining.after_run}
-use Rattle.dn_remain.specs.{Remaining.after_telling, Remaining.is_barred, Remaining.is_barred_flight, Remaining.opening_remaining, declared.events.RemainEvent.TheVariants.Own}
-use Rattle.dn_remain.specs.{declared.events.RemainEvent.TheVariants.GiveUp, declared.events.RemainEvent.TheVariants.Tell, declared.events.RemainEvent.TheVariants.Hear}
-use Rattle.dn_remain.proofs.{Relayed.goes_on_by, Relayed.reached_by, Known.IsTold, Followed.there, Vanished.Put.at_put, Vanished.Put.own_put, Reached.IsReached}
+use Rattle.dn_machine.proofs.{Started.comes_there, GoingOn.accepted_build, Put.{put_at, put_off}}
+use Rattle.dn_lockstep.specs.{Opening.IsGame, Contents.{Contents, end_in}, Hearing.{HearsNear, Spares}, Rows.is_gone}
+use Rattle.dn_lockstep.specs.{Marking.{History, Marking}, Sent.{IsFair, bytes_of, sent_to}, Told.{made, command_told}}
+use Rattle.dn_lockstep.specs.OneGame.{beside, world_told, given_on, taken_on, told_on}
+use Rattle.dn_lockstep.specs.Steps.{RunsBy, marks_in, Steps, Tells, IsAfter}
+use Rattle.dn_lockstep.proofs.OneGame.{start_fair, IsQuiet, Rows, build_inputs, build_rows, fair_on, hear_quiet}
+use Rattle.dn_lockstep.proofs.OneGame.{not_past, own_is, quit_quiet, send_quiet, sent_between}
+use Rattle.dn_lockstep.proofs.{Shown.{got_is, tells_held}, Running.{but_same, but_tells, kept_same}}
+use Rattle.dn_remain.proofs.{Quiet.stays_quiet, Relayed.{as_relayed, goes_on_by, reached_by}, Known.IsTold}
+use Rattle.dn_remain.proofs.{Followed.there, Vanished.Put.{at_put, own_put}, Reached.IsReached}
+use Rattle.dn_remain.specs.{Relaying.Own as plain, Vanished.Commands.Holder, declared.events.RemainEvent.RemainEvent}
+use Rattle.dn_remain.specs.Remaining.{NextRemain, Remaining, Telling, wary_of, with_wary, with_telling, unless}
+use Rattle.dn_remain.specs.Remaining.{after_event, after_hearing, after_run, after_telling, is_barred, is_barred_flight}
+use Rattle.dn_remain.specs.{Remaining.opening_remaining, Wary.{Report, Wary, on_give_up, on_report, report_to, now_of}}
+use Rattle.dn_remain.specs.declared.events.RemainEvent.TheVariants.{Own, GiveUp, Tell, Hear}
+use Rattle.dn_survivor.specs.Represents.{nobody_gone}
+use Rattle.dn_survivor.specs.OneGame.{started_session, after_report, opening_session, with_survivor}
+use Rattle.dn_survivor.specs.{declared.report.Report.Report as Told, OfOthers.nothing_kept, Telling.MayRelay, Telling.told_gone, Calls.GivesUp, Calls.HearsReport, Calls.sent_unless, OneGame.AreRemaining}
+use Rattle.dn_survivor.specs.{OneGame.AreTelling, OneGame.IsGivenAs, OneGame.IsTelling, Represents.Represents, Represents.given_up_is, Represents.reported_is, Surviving.Surviving, Surviving.has_given_up}
+use Rattle.dn_survivor.specs.{Telling.report_for, declared.answers.GivenUp.GivenUp, declared.answers.Reported.Reported, OneGame.Given, OneGame.Session, OneGame.after_build, OneGame.after_packet, OneGame.after_relays}
+use Rattle.dn_tic.specs.{declared.command.Move.Move, declared.command.TicCmd.TicCmd, declared.input.Input.Input, declared.input.Input.TheVariants.Pressed, declared.input.Input.TheVariants.Given as Handed}
 use Rattle.dn_survivor.proofs.{Decided.gone_can, Decided.told_can, Steps.give_up_quiet, Steps.report_quiet, Steps.run_inputs, Reports.telling_at, Reports.telling_more, Reports.told_apart}
 use Rattle.dn_machine.specs.Drops as drops
 use Rattle.dn_machine.specs.Node as machine
@@ -121,16 +94,10 @@ module _ (marking : Marking) (limits : Limits) (settings : Settings) where
         nodes = λ p below. subst (λ (m : machine.Node). Represents limits p (survivors p) (nobody_gone m))
             (sym (there.2.nodes p below)) (steps.opened limits p (survivors p)
             (started_node limits.players settings p) below few.1 kept (each p below) (nothing p below));
-        inputs = λ p. elim (cases_Bool (nat_lt p limits.players)) [
-          | inl below ↦ ap (λ (m : machine.Node). m.inputs) (there.2.nodes p (ltb-true p limits.players below))
-          | inr past ↦ ap (λ (m : machine.Node). m.inputs) (there.2.others p (ltb-false p limits.players past))
-        ];
+        inputs = grind (arith, nat_lt, ltb-true, ltb-false);
         packets = there.2.flights;
         reports = tt;
-        rows = λ p. elim (cases_Bool (nat_lt p limits.players)) [
-          | inl below ↦ ap (λ (m : machine.Node). m.rows) (there.2.nodes p (ltb-true p limits.players below))
-          | inr past ↦ ap (λ (m : machine.Node). m.rows) (there.2.others p (ltb-false p limits.players past))
-        ];
+        rows = grind (arith, nat_lt, ltb-true, ltb-false);
         fair = start_fair marking limits settings fits (limits.players - 1) (omega (arith, few));
         going = there.2.going;
       }
@@ -241,11 +208,7 @@ module _ (marking : Marking) (limits : Limits) (settings : Settings) where
             game = record { nodes = put node i m; stopped = game.last.game.stopped; flights = flights };
           }) inputs packets rows new (inr (
             free,
-            record {
-              nodes = put node i m;
-              stopped = game.last.game.stopped;
-              flights = flights;
-            },
+            record { nodes = put node i m; stopped = game.last.game.stopped; flights = flights },
             inl (sym is),
             refl,
           ))
@@ -264,8 +227,7 @@ module _ (marking : Marking) (limits : Limits) (settings : Settings) where
       moves : (event : Event) (m : machine.Node) (new : Surviving) → is_barred game.last event ≡ false
           → after_event rules game.last event
           ≡ record { nodes = put node i m; stopped = game.last.game.stopped; flights = game.last.game.flights }
-          → Represents limits i new (record wary { node = m }) → IsQuiet me m
-          → Still (with_survivor session i new)
+          → Represents limits i new (record wary { node = m }) → IsQuiet me m → Still (with_survivor session i new)
       moves event m new free is shows quiet =
           owns event m game.last.game.flights session.packets session.inputs session.told new free is shows
           (inputs_stay i m quiet.1) game.packets game.fair (rows_stay i m quiet.0)
@@ -388,8 +350,7 @@ module _ (marking : Marking) (limits : Limits) (settings : Settings) where
 
       pub gives : (to : ℕ) (new : Surviving) (bytes : Option (List ℕ)) → IsFairBy (sent_unless old.others to)
           → GivesBy (sent_unless old.others to) new bytes → new.others ≡ old.others
-          → (packet : Option Flight) × IsGivenAs old i to bytes packet
-          × Still (after_packet session i packet new)
+          → (packet : Option Flight) × IsGivenAs old i to bytes packet × Still (after_packet session i packet new)
       gives to new bytes fair by same = elim (cases_Bool (has_given_up old to)) [
         | inr free ↦ gave_to to new bytes free (as_sent free fair) (as_stepped free by) same
         | inl given ↦
@@ -430,20 +391,19 @@ module _ (marking : Marking) (limits : Limits) (settings : Settings) where
       becomes event w new step shows quiet = grind (arith, changes, elsewhere, there, inputs_stay, rows_stay)
 
       -- a give-up
-      module _ (player : ℕ) (new : Surviving) (answer : GivenUp) (by : GivesUp player old new answer)
-        where
-          pub gave_up_is : Represents limits i new (on_give_up limits i wary player).0
-              × (answer ≡ given_up_is (on_give_up limits i wary player).1)
-          gave_up_is =
-              waries.gave_up limits i old new wary shown player answer
-              (λ phase peer can. gone_can rules settings game.window game.events game.last game.runs i player mine
-              (grind (arith, peer)) (λ e. absurd (grind (arith, peer, e))) phase can) by
+      module _ (player : ℕ) (new : Surviving) (answer : GivenUp) (by : GivesUp player old new answer) where
+        pub gave_up_is : Represents limits i new (on_give_up limits i wary player).0
+            × (answer ≡ given_up_is (on_give_up limits i wary player).1)
+        gave_up_is =
+            waries.gave_up limits i old new wary shown player answer
+            (λ phase peer can. gone_can rules settings game.window game.events game.last game.runs i player mine
+            (grind (arith, peer)) (λ e. absurd (grind (arith, peer, e))) phase can) by
 
-          pub gives_up : Still (with_survivor session i new)
-          gives_up =
-              becomes (GiveUp i player) (on_give_up limits i wary player).0 new
-              (sym (ap (λ (o : Option Refusal). unless o game.last (with_wary game.last i
-              (on_give_up limits i wary player).0)) accepts)) gave_up_is.0 (give_up_quiet limits i wary player)
+        pub gives_up : Still (with_survivor session i new)
+        gives_up =
+            becomes (GiveUp i player) (on_give_up limits i wary player).0 new
+            (sym (ap (λ (o : Option Refusal). unless o game.last (with_wary game.last i
+            (on_give_up limits i wary player).0)) accepts)) gave_up_is.0 (give_up_quiet limits i wary player)
 
       -- a report, if one is given
       module _ (to : ℕ) where
@@ -482,14 +442,9 @@ module _ (marking : Marking) (limits : Limits) (settings : Settings) where
           where
             told_step : report_to limits i wary to ≡ Some told
                 → after_telling limits game.last i to ≡ with_telling game.last i to (Some told)
-            told_step is =
-                let on = lt-ltb to limits.players low in
-                ap (λ (o : Option Refusal). unless o game.last (if nat_lt to limits.players then with_telling
-                game.last i to (report_to limits i wary to) else game.last)) accepts ∙ cond-true
-                (nat_lt to limits.players) _ _ on ∙ ap (with_telling game.last i to) is
+            told_step is = grind (arith, lt-ltb, unless, nat_lt, accepts, cond-true)
 
-        pub tells : (report : Option Told) → report ≡ report_for old to
-            → Still (after_report session i to report)
+        pub tells : (report : Option Told) → report ≡ report_for old to → Still (after_report session i to report)
         tells report is = elim (cases_lt to limits.players) [
           | inl low ↦ tells_to low report (report_to limits i wary to) refl
               (subst (λ (o : Option Told). others.AreTold limits.players limits.places to i o
@@ -539,10 +494,7 @@ module _ (marking : Marking) (limits : Limits) (settings : Settings) where
           }
         where
           peer_below : (p : ℕ) → game.last.gone i p ≡ true → p < limits.players
-          peer_below p gone = let peer = shown.peers p gone in elim (cases_lt p limits.players) [
-            | inl low ↦ low
-            | inr past ↦ let off = le-ltb p limits.players past in absurd (grind (arith, peer, off))
-          ]
+          peer_below p gone = grind (arith, cases_lt, le-ltb)
 
     -- a packet that was given
     module _ (which : ℕ) (packet : Flight) (at : slice_get session.packets which ≡ Some packet) where
@@ -565,47 +517,45 @@ module _ (marking : Marking) (limits : Limits) (settings : Settings) where
       receiver_made = grind (arith, receiver, got_is, told_there)
 
       -- comes as it was given
-      module _ (new : Surviving) (heard : Heard)
-          (near : is_near (made there_now.lockstep) packet ≡ true)
+      module _ (new : Surviving) (heard : Heard) (near : is_near (made there_now.lockstep) packet ≡ true)
           (by : has_given_up there_now packet.from ≡ false
-          → HearsNear packet.from (bytes_of packet) there_now.lockstep new.lockstep heard)
-        where
-          accepted_there : refused_flight game.last.game (Some packet) ≡ None
-          accepted_there = grind (arith, receiver_made)
+          → HearsNear packet.from (bytes_of packet) there_now.lockstep new.lockstep heard) where
+        accepted_there : refused_flight game.last.game (Some packet) ≡ None
+        accepted_there = grind (arith, receiver_made)
 
-          pub heard_there : has_given_up there_now packet.from ≡ false
-              → IsAfter limits packet.to new.lockstep (on_packet limits packet.to its packet)
-              (λ answer. heard ≡ answer)
-          heard_there free =
-              let r = receiver.node in
-              let told = told_there in
-              let steps = by free packet (game.fair which packet at) refl refl
-              (omega (arith, told.sender, r.whose.players)) (λ e. told.apart (e ∙ r.whose.number)) near in
-              steps.step limits packet.to its r
+        pub heard_there : has_given_up there_now packet.from ≡ false
+            → IsAfter limits packet.to new.lockstep (on_packet limits packet.to its packet)
+            (λ answer. heard ≡ answer)
+        heard_there free =
+            let r = receiver.node in
+            let told = told_there in
+            let steps = by free packet (game.fair which packet at) refl refl
+            (omega (arith, told.sender, r.whose.players)) (λ e. told.apart (e ∙ r.whose.number)) near in
+            steps.step limits packet.to its r
 
-          delivers : after_event rules game.last (Deliver which)
-              ≡ record {
-                nodes = put node packet.to (on_packet limits packet.to its packet).0;
-                stopped = game.last.game.stopped;
-                flights = game.last.game.flights;
-              }
-          delivers =
-              by_event packet.to told_there.receiver (Deliver which)
-              (ap (refused_flight game.last.game) given_there ∙ accepted_there)
-              ∙ ap (λ (o : Option Flight). (delivered rules game.last.game o).0) given_there
+        delivers : after_event rules game.last (Deliver which)
+            ≡ record {
+              nodes = put node packet.to (on_packet limits packet.to its packet).0;
+              stopped = game.last.game.stopped;
+              flights = game.last.game.flights;
+            }
+        delivers =
+            by_event packet.to told_there.receiver (Deliver which)
+            (ap (refused_flight game.last.game) given_there ∙ accepted_there)
+            ∙ ap (λ (o : Option Flight). (delivered rules game.last.game o).0) given_there
 
-          pub hears : (has_given_up there_now packet.from ≡ true → heard ≡ Heard.Dropped drops.given_up)
-              → Spares there_now new heard → new.others ≡ there_now.others
-              → Still (with_survivor session packet.to new)
-          hears barred spares same = elim (cases_Bool (has_given_up there_now packet.from)) [
-            | inl given ↦ keeps packet.to new (spares 15 (barred given))
-            | inr free ↦
-                moves packet.to told_there.receiver (Deliver which) (on_packet limits packet.to its packet).0
-                new (ap (is_barred_flight game.last) given_there ∙ free_of packet.to told_there.receiver
-                packet.from free) delivers (steps.stepped limits packet.to there_now new
-                (wary_of game.last packet.to) _ receiver (heard_there free).node same)
-                (hear_quiet limits packet.to its packet)
-          ]
+        pub hears : (has_given_up there_now packet.from ≡ true → heard ≡ Heard.Dropped drops.given_up)
+            → Spares there_now new heard → new.others ≡ there_now.others
+            → Still (with_survivor session packet.to new)
+        hears barred spares same = elim (cases_Bool (has_given_up there_now packet.from)) [
+          | inl given ↦ keeps packet.to new (spares 15 (barred given))
+          | inr free ↦
+              moves packet.to told_there.receiver (Deliver which) (on_packet limits packet.to its packet).0
+              new (ap (is_barred_flight game.last) given_there ∙ free_of packet.to told_there.receiver
+              packet.from free) delivers (steps.stepped limits packet.to there_now new
+              (wary_of game.last packet.to) _ receiver (heard_there free).node same)
+              (hear_quiet limits packet.to its packet)
+        ]
 
     -- a report that was given, and comes as it was given
     module _ (which : ℕ) (given : Given) (at : slice_get session.reports which ≡ Some given) where

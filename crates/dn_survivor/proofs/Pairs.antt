@@ -1,29 +1,21 @@
 -- What the survivors of one game tell of themselves agrees, since the nodes that they represent do.
-use Rattle.std.proofs.Common.{◌≡◌, ◌≢◌, ◌<◌, ◌≤◌, ℕ, ◌+◌, ℤ, pos, true, false, List, [], ◌++◌, length, take, get_or, Option, Some, None, refl, ap, sym, ◌∙◌, subst, arith, inl, inr}
-use Rattle.std.specs.Prelude.{◌⊎◌, if◌then◌else◌, slice_get, Ok}
-use Rattle.std.specs.List.{take_while}
-use Rattle.std.specs.Option.{option_map}
+use Rattle.std.proofs.Common.{◌≡◌, ◌≢◌, ◌<◌, ◌≤◌, ℕ, ◌+◌, ℤ, pos, true, false, List, [], ◌++◌, length, take, get_or, Option, Some, None, refl, ap, sym, ◌∙◌, subst, arith, inl, inr, ◌⊎◌, if◌then◌else◌, slice_get, Ok, take_while, option_map}
 use Rattle.std.proofs.lemmas.Bool.{cases_Bool, cases_eq, cond-true, cond-false, lt-leb, ne_eqb}
 use Rattle.std.proofs.lemmas.Option.{none-some, same_Some, slice_get-get_or}
-use Rattle.dn_tic.specs.{Command.used, Inputs.made_by, declared.command.Move.Move, declared.command.TicCmd.TicCmd, declared.input.Input.Input}
+use Rattle.dn_tic.specs.{Command.used, Inputs.made_by, declared.{command.{Move.Move, TicCmd.TicCmd}, input.Input.Input}}
 use Rattle.dn_setup.specs.Settings.{Settings, start_of}
-use Rattle.dn_demo.specs.{Layout.long_tics, Reading.IsReadAs, Reading.written_demo, Text.commands_of, Text.demo_text}
+use Rattle.dn_demo.specs.{Layout.long_tics, Reading.{IsReadAs, written_demo}, Text.{commands_of, demo_text}}
 use Rattle.dn_machine.specs.{Limits.Limits, Node.demo_rows, Node.ends_of, Node.has_left, Node.held_at, Node.is_ended, Node.is_whole, Node.lacks, Promise.IsPrefixOf, Running.is_over}
 use Rattle.dn_machine.proofs.Demos.{front_passes, front_short}
-use Rattle.dn_lockstep.specs.Contents.{Contents, end_in}
-use Rattle.dn_lockstep.specs.Agreed.{recorded}
-use Rattle.dn_lockstep.specs.Marking.{Marking}
-use Rattle.dn_lockstep.specs.Rows.{seats_of}
+use Rattle.dn_lockstep.specs.{Contents.{Contents, end_in}, Agreed.recorded, Marking.Marking, Rows.seats_of}
 use Rattle.dn_lockstep.specs.Told.{HasStarted, command_told, got, made}
-use Rattle.dn_lockstep.proofs.Agreeing.{own_marked}
+use Rattle.dn_lockstep.proofs.{Agreeing.own_marked, Moving.read_back, Seats.seats_whole}
 use Rattle.dn_lockstep.proofs.DemosAgreeing.{AreFull, recorded_in_text, begun_or, commands_prefix, prefix_same}
-use Rattle.dn_lockstep.proofs.Moving.{read_back}
-use Rattle.dn_lockstep.proofs.Seats.{seats_whole}
 use Rattle.dn_remain.specs.{Vanished.Commands.Holder, Promise.AgreeInPairs, Promise.FitsInPairs, Promise.SteadyInPairs, Remaining.wary_of, Wary.end_seen, Wary.reached, Wary.Report}
 use Rattle.dn_remain.proofs.{Promises.pairs_fit, Marked.fronts_same, Promises.pairs_agree, Reached.IsReached, Seeing.reached_cases, Seeing.reached_some, Steady.pairs_steady}
 use Rattle.dn_survivor.specs.{OfOthers.count_told, Agreed.AreAgreedInPairs, Agreed.FitInPairs, Agreed.IsPair, Agreed.move_told, Agreed.row_without, Agreed.DemosAgreeInPairs, Agreed.is_closed, Agreed.rows_whole}
 use Rattle.dn_survivor.specs.{OneGame.AreRemaining, Represents.Represents, OneGame.Given, OneGame.Session, Surviving.Surviving, Surviving.end_settled, Surviving.has_given_up}
-use Rattle.dn_survivor.proofs.{Lists.front_at, Lists.row_alike, Lists.seat_there, Lists.used_same, OneGame.rules}
+use Rattle.dn_survivor.proofs.{Lists.{front_at, row_alike, seat_there, used_same}, OneGame.rules}
 use Rattle.dn_machine.specs.Node as machine
 use Rattle.dn_lockstep.specs.Represents as lockstep
 use Rattle.dn_lockstep.proofs.Shown
@@ -273,11 +265,7 @@ module _ (marking : Marking) (limits : Limits) (settings : Settings) (session : 
     where
       end_told : (r p b : ℕ) → end_settled (session.survivors r) p ≡ Some b
           → end_in (session.survivors r).lockstep p ≡ Some b
-      end_told r p b t =
-          elim (reached_cases (got (session.survivors r).lockstep p) (end_in (session.survivors r).lockstep p)) [
-            | inl none ↦ absurd (none-some b (sym none.0 ∙ t))
-            | inr some ↦ some.1 ∙ (sym some.2 ∙ t)
-          ]
+      end_told r p b t = grind (arith, reached_cases, end_in, none-some)
 
       own_of : (q r p a b : ℕ) → IsPair limits session.survivors q r → p < limits.players
           → end_settled (session.survivors q) p ≡ Some a → end_settled (session.survivors r) p ≡ Some b → p ≡ q
@@ -370,24 +358,18 @@ module _ (marking : Marking) (limits : Limits) (settings : Settings) (session : 
         omega (arith, f, ran p l);
   }
     where
-      ran_through : (q p : ℕ) → q < limits.players → p < limits.players
-          → end_settled (session.survivors q) p ≡ None
+      ran_through : (q p : ℕ) → q < limits.players → p < limits.players → end_settled (session.survivors q) p ≡ None
           → (session.survivors q).lockstep.ran ≤ got (session.survivors q).lockstep p
       ran_through q p l its is = elim (cases_eq p q) [
         | inr apart ↦
             let f = fits.run q p its (sym (settled_other q l p its apart) ∙ is) in
             omega (arith, f, has q l p its, ran q l)
-        | inl same ↦
-            let f = ran_all q l in
-            let own = has q l q l in
-            let same_got = ap (got (session.survivors q).lockstep) same in
-            omega (arith, f, own, same_got, ran q l)
+        | inl same ↦ grind (arith, ran_all, has, ran)
       ]
 
       told_of : (which p : ℕ) (given : Given) → slice_get session.reports which ≡ Some given
           → p < limits.players → p ≢ given.to → p ≢ given.from
-          → is_ended (session.survivors given.to).lockstep.phase ≡ false
-          → count_told given.report.told.items p
+          → is_ended (session.survivors given.to).lockstep.phase ≡ false → count_told given.report.told.items p
           ≤ (session.survivors given.to).lockstep.ran + (limits.ahead + limits.ahead)
       told_of which p given at its not_to not_from on =
           let there = game_of.there_at marking limits settings game which given at in
@@ -400,12 +382,7 @@ module _ (marking : Marking) (limits : Limits) (settings : Settings) (session : 
           omega (arith, f, told, ran given.to to_it)
 
   pub demos : DemosAgreeInPairs limits.players settings session
-  demos = record {
-    texts = text_is;
-    read_back = reads_back;
-    rows = rows_agree;
-    commands = commands_agree;
-  }
+  demos = record { texts = text_is; read_back = reads_back; rows = rows_agree; commands = commands_agree }
     where
       rows_agree : (q r : ℕ) → q < limits.players → r < limits.players
           → IsPrefixOf (rows_whole limits.players session q) (rows_whole limits.players session r)

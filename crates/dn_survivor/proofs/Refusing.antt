@@ -1,24 +1,19 @@
 -- For which reasons an end is refused, and what a give-up does to the phase.
-use Rattle.std.proofs.Common.{◌≡◌, ◌≢◌, ◌<◌, ◌≤◌, ◌+◌, ℕ, zero, suc, Bool, true, false, List, refl, sym, ap, subst, ◌∙◌, arith, inl, inr, Option, Some, None}
-use Rattle.std.specs.Prelude.{◌⊎◌, ◌||◌, not, nat_lt, if◌then◌else◌}
+use Rattle.std.proofs.Common.{◌≡◌, ◌≢◌, ◌<◌, ◌≤◌, ◌+◌, ℕ, zero, suc, Bool, true, false, List, refl, sym, ap, subst, ◌∙◌, arith, inl, inr, Option, Some, None, ◌⊎◌, ◌||◌, not, nat_lt, if◌then◌else◌, get_or-set_other}
+use Rattle.std.proofs.lemmas.{Bool.{both_ways, cases_Bool, cond_both, eq-eqb, le-ltb}, Option.same_Some}
 use Rattle.std.specs.List.{list_any}
-use Rattle.std.proofs.lemmas.Bool.{both_ways, cases_Bool, cond_both, eq-eqb, le-ltb}
-use Rattle.std.proofs.lemmas.List.{get_or-set_other}
-use Rattle.std.proofs.lemmas.Option.{same_Some}
 use Rattle.dn_tic.specs.declared.command.TicCmd.{TicCmd}
 use Rattle.dn_survivor.specs.{declared.report.Report.Report, declared.others.Others.Others, OfOthers.reported_as, OfOthers.with_newest, declared.answers.Ends.Ends, declared.answers.GivenUp.GivenUp}
 use Rattle.dn_survivor.specs.{declared.answers.Reported.Reported, Surviving.Surviving, Surviving.has_given_up, OfOthers.commands_of, OfOthers.first_of, OfOthers.has, OfOthers.nodes_of}
 use Rattle.dn_survivor.specs.{OfOthers.own_of, OfOthers.told_of, Calls.GivesUp, Calls.GivesUpUnless, Calls.HearsReport, Calls.HearsReportUnless, Calls.given_up_as, Calls.refused_give_up}
 use Rattle.dn_survivor.specs.{Calls.refused_report, Calls.reported_by, Calls.unkept, Calls.with_gone, Calls.IsRefusal, Calls.decided_by, Calls.end_by, Calls.ends_with, Calls.settled_below, Calls.settled_by}
 use Rattle.dn_machine.specs.{declared.answers.Phase.Phase, Limits.Limits, Node.ends_of, Node.got, Node.is_ended, Node.ran, declared.answers.Phase.TheVariants.Gathering, declared.answers.Phase.TheVariants.Playing}
-use Rattle.dn_lockstep.specs.declared.lockstep.settling.Settled.{Settled}
-use Rattle.dn_lockstep.specs.Phases.{is_listening}
-use Rattle.dn_lockstep.specs.Tables.{is_stop}
-use Rattle.dn_lockstep.specs.Settling.{has_gap, is_no_peer, is_other_end, missing, on_excuse}
-use Rattle.dn_lockstep.specs.{Settling.on_settle, Settling.refused_end, Settling.settled_unless}
-use Rattle.dn_remain.specs.{Vanished.Calls.can_decide, Vanished.Node.share, Wary.is_in_game, Wary.noted_gone}
+use Rattle.dn_lockstep.specs.{declared.lockstep.settling.Settled.Settled, Phases.is_listening, Tables.is_stop}
+use Rattle.dn_lockstep.specs.Settling.{has_gap, is_no_peer, is_other_end, missing, on_excuse, on_settle, refused_end}
+use Rattle.dn_lockstep.specs.Settling.{settled_unless}
+use Rattle.dn_remain.specs.{Vanished.{Calls.can_decide, Node.share}, Wary.{is_in_game, noted_gone}}
 use Rattle.dn_remain.proofs.Vanished.Put.{highest_bounds}
-use Rattle.dn_survivor.proofs.{Ends.in_game, Waries.excused, Waries.still_in}
+use Rattle.dn_survivor.proofs.{Ends.in_game, Waries.{excused, still_in}}
 use Rattle.dn_machine.specs.Drops as drops
 use Rattle.dn_machine.specs.Node as machine
 use Rattle.dn_lockstep.specs.Represents as lockstep
@@ -165,8 +160,7 @@ module _ (old new : Surviving) (player : ℕ) where
 
   -- no survivor gives up its own player
   stays_own : is_no_peer old.lockstep.players old.lockstep.me player ≡ false
-      → has old.others.gone old.lockstep.me ≡ false
-      → has (with_gone old.others player).gone old.lockstep.me ≡ false
+      → has old.others.gone old.lockstep.me ≡ false → has (with_gone old.others player).gone old.lockstep.me ≡ false
   stays_own peer own = grind (arith, get_or-set_other)
 
   pub own_stays : (answer : GivenUp) → has_given_up old old.lockstep.me ≡ false → GivesUp player old new answer
@@ -217,8 +211,7 @@ module _ (old new : Surviving) (from : ℕ) (report : Report) where
 
   -- it is kept where an end is not taken
   by_test : (here stranger : Bool) (rest : Option Reported) (other : ℕ) (reason : Settled)
-      → (rest ≡ Some (Reported.Untaken other reason) → ⊥)
-      → (o : Option Reported)
+      → (rest ≡ Some (Reported.Untaken other reason) → ⊥) → (o : Option Reported)
       → (if not here then Some (Reported.Dropped drops.not_playing) else (
       if stranger then Some (Reported.Dropped drops.stranger) else rest)) ≡ o
       → HearsReportUnless o from report old new (Reported.Untaken other reason)
@@ -230,8 +223,7 @@ module _ (old new : Surviving) (from : ℕ) (report : Report) where
       → has_given_up old me ≡ false → HearsReport from report old new (Reported.Untaken other reason)
       → IsRefusal reason × (other < limits.players) × (has_given_up new other ≡ true)
   reported limits me m other reason mine r own by =
-      let hears = by_test (is_in_game old.lockstep.phase)
-      (is_no_peer old.lockstep.players old.lockstep.me from)
+      let hears = by_test (is_in_game old.lockstep.phase) (is_no_peer old.lockstep.players old.lockstep.me from)
       (unkept (reported_as old.lockstep.players old.lockstep.me old.others from report)) other reason
       (unkept_is _ other reason) (refused_report old from report) refl by in
       let after = hears.1.1.step limits me m r in

@@ -1,22 +1,14 @@
 -- The bytes of a report: they are read as one thing, and how many they are.
-use Rattle.std.proofs.Common.{◌≡◌, ◌<◌, ◌+◌, ◌*◌, ℕ, suc, List, [], ◌∷◌, ◌++◌, length, take, get_or, ap, sym, ◌∙◌, arith, append_assoc, append-nil, ◌≤◌, drop, All, refl, length-append, None, ◌/◌, ◌%◌, subst}
-use Rattle.std.proofs.Common.{Option, Some, Result, Ok, Err, inl, inr}
-use Rattle.std.specs.List.{flat_map}
-use Rattle.std.proofs.Math.Seq.{take-suc}
-use Rattle.std.proofs.lemmas.Grind.{flat_map-append}
-use Rattle.std.specs.Prelude.{slice_index, Bool, true, false}
-use Rattle.std.proofs.lemmas.Bool.{ne_eqb, le-ltb, eq-eqb}
-use Rattle.std.proofs.lemmas.List.{take-append-drop, length-take-le, drop-drop}
-use Rattle.std.proofs.lemmas.List.Elements.{All-head, All-tail}
+use Rattle.std.proofs.Common.{◌≡◌, ◌<◌, ◌+◌, ◌*◌, ℕ, suc, List, [], ◌∷◌, ◌++◌, length, take, get_or, ap, sym, ◌∙◌, arith, append_assoc, append-nil, ◌≤◌, drop, All, refl, length-append, None, ◌/◌, ◌%◌, subst, Option, Some, Result, Ok, Err, inl, inr, flat_map, take-suc, slice_index, Bool, true, false, ne_eqb, le-ltb, eq-eqb, take-append-drop, length-take-le, drop-drop}
+use Rattle.std.proofs.lemmas.{Grind.flat_map-append, List.Elements.{All-head, All-tail}, Option.{same_Some, none-some}}
 use Rattle.std.proofs.lemmas.Nat.{from_le_bytes-to_le_bytes_4, le_bytes_4}
-use Rattle.std.proofs.lemmas.Option.{same_Some, none-some}
-use Rattle.dn_tic.specs.{Command.command_bytes, Command.IsCommand, declared.command.TicCmd.TicCmd}
+use Rattle.dn_tic.specs.{Command.{command_bytes, IsCommand}, declared.command.TicCmd.TicCmd}
 use Rattle.dn_tic.proofs.Bytes.{same_command}
 use Rattle.dn_packet.proofs.Texts.{length-commands}
-use Rattle.dn_survivor.specs.{declared.report.Tail.Tail, ReportBytes.tail_bytes, ReportBytes.IsTail, ReportBytes.fault_at, ReportBytes.told_count, ReportBytes.told_number}
-use Rattle.dn_survivor.specs.{ReportBytes.IsFirst, declared.report.Report.Report, ReportBytes.report_bytes, ReportBytes.IsReport, ReportBytes.bit, ReportBytes.number_of}
-use Rattle.dn_survivor.specs.{declared.report.ReportFault.ReportFault, ReportBytes.first_byte, ReportBytes.AreInOrder, ReportBytes.AreTold, ReportBytes.first_fault}
-use Rattle.dn_survivor.specs.{ReportBytes.next_after, ReportBytes.HasFault, ReportBytes.IsReadAs}
+use Rattle.dn_survivor.specs.declared.report.{Tail.Tail, Report.Report, ReportFault.ReportFault}
+use Rattle.dn_survivor.specs.ReportBytes.{tail_bytes, IsTail, fault_at, told_count, told_number, IsFirst, report_bytes}
+use Rattle.dn_survivor.specs.ReportBytes.{IsReport, bit, number_of, first_byte, AreInOrder, AreTold, first_fault}
+use Rattle.dn_survivor.specs.ReportBytes.{next_after, HasFault, IsReadAs}
 
 -- What is told of a player is found again in its bytes.
 four_fit : (a b c d : ℕ) → a < 256 → b < 256 → c < 256 → d < 256 → (i : ℕ) → get_or (a ∷ b ∷ c ∷ d ∷ []) i 0 < 256
@@ -87,8 +79,7 @@ pub one_more : {X : Type 0} (f : X → List ℕ) (start : List ℕ) (xs : List X
 one_more {X} f start xs i d bytes new below so_far more =
     let x : X = get_or xs i d in
     let next : i + 1 ≡ suc i = omega arith in
-    let taken : take (i + 1) xs ≡ take i xs ++ x ∷ [] =
-    ap (λ (n : ℕ). take n xs) next ∙ take-suc xs i d below in
+    let taken : take (i + 1) xs ≡ take i xs ++ x ∷ [] = ap (λ (n : ℕ). take n xs) next ∙ take-suc xs i d below in
     more ∙ ap (λ (bs : List ℕ). bs ++ f x) so_far
     ∙ append_assoc start (flat_map f (take i xs)) (f x)
     ∙ ap (λ (bs : List ℕ). start ++ bs) (sym (ap (flat_map f) taken ∙ grown f (take i xs) x))
@@ -198,11 +189,9 @@ not_both before least tail rest bytes end is few order e ends =
 
 -- players, and what stands behind theirs, are found again in the bytes
 once : (before least : ℕ) (a b : List Tail) (r s : List ℕ) (o p : Option ReportFault)
-    → Begins before least a → Begins before least b
-    → flat_map tail_bytes a ++ r ≡ flat_map tail_bytes b ++ s
+    → Begins before least a → Begins before least b → flat_map tail_bytes a ++ r ≡ flat_map tail_bytes b ++ s
     → (n m : ℕ) → n ≡ before + length a → m ≡ before + length b
-    → Ends n (next_after least a) r o → Ends m (next_after least b) s p
-    → (a ≡ b) × (o ≡ p)
+    → Ends n (next_after least a) r o → Ends m (next_after least b) s p → (a ≡ b) × (o ≡ p)
 once before least [] [] r s o p ha hb e n m hn hm x y = grind arith
 once before least [] (u ∷ b) r s o p ha hb e n m hn hm x y =
     absurd (not_both n least u (flat_map tail_bytes b ++ s) r o (All-head IsTail u b hb.tails)
@@ -212,8 +201,7 @@ once before least (t ∷ a) [] r s o p ha hb e n m hn hm x y =
     (omega (arith, hm, ha.few)) ha.order.0 (sym e ∙ append_assoc (tail_bytes t) (flat_map tail_bytes a) r) y)
 once before least (t ∷ a) (u ∷ b) r s o p ha hb e n m hn hm x y =
     let one = same_tail t u (flat_map tail_bytes a ++ r) (flat_map tail_bytes b ++ s) (All-head IsTail t a ha.tails)
-    (All-head IsTail u b hb.tails)
-    (sym (append_assoc (tail_bytes t) (flat_map tail_bytes a) r) ∙ e
+    (All-head IsTail u b hb.tails) (sym (append_assoc (tail_bytes t) (flat_map tail_bytes a) r) ∙ e
     ∙ append_assoc (tail_bytes u) (flat_map tail_bytes b) s) in
     let same : u ≡ t = sym one.0 in
     let more = subst (λ (v : Tail). Begins (before + 1) (suc v.player) b) same (others before least u b hb) in

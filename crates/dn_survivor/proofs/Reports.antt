@@ -1,25 +1,19 @@
 -- The report that a survivor gives tells what its node has, and those that were given are those that were
 -- told.
-use Rattle.std.proofs.Common.{◌≡◌, ◌≢◌, ◌<◌, ◌≤◌, ◌+◌, ◌-◌, ℕ, zero, suc, Bool, false, List, [], ◌∷◌, length, add-one, refl, sym, ap, subst, ◌∙◌, arith, inl, inr, Some, None, ◌++◌}
-use Rattle.std.specs.Prelude.{All, ◌&&◌, ◌||◌, ◌==◌, not, min, if◌then◌else◌, slice_get}
-use Rattle.std.specs.List.{filter_map, range_with_len}
-use Rattle.std.specs.Option.{option_or}
-use Rattle.std.proofs.lemmas.Bool.{cases_Bool, cases_eq, cases_lt, eq-eqb, ne_eqb, lt-ltb}
-use Rattle.std.proofs.lemmas.Option.{none-some}
+use Rattle.std.proofs.Common.{◌≡◌, ◌≢◌, ◌<◌, ◌≤◌, ◌+◌, ◌-◌, ℕ, zero, suc, Bool, false, List, [], ◌∷◌, length, add-one, refl, sym, ap, subst, ◌∙◌, arith, inl, inr, Some, None, ◌++◌, All, ◌&&◌, ◌||◌, ◌==◌, not, min, if◌then◌else◌, slice_get}
+use Rattle.std.proofs.lemmas.{Bool.{cases_Bool, cases_eq, cases_lt, eq-eqb, ne_eqb, lt-ltb}, Option.none-some}
+use Rattle.std.specs.{List.{filter_map, range_with_len}, Option.option_or}
 use Rattle.dn_ring.specs.Ring.{Ring}
-use Rattle.dn_machine.specs.{Limits.Limits, Node.got, Node.is_ended, Node.lowest}
-use Rattle.dn_machine.specs.Node as machine
+use Rattle.dn_machine.specs.{Limits.Limits, Node.{got, is_ended, lowest}}
 use Rattle.dn_remain.specs.{Vanished.Commands.last_of, Wary.Wary, Wary.has_gone, Wary.report_of, Wary.report_to, Remaining.Telling, Wary.Report}
-use Rattle.dn_lockstep.specs.Contents.{Contents}
-use Rattle.dn_lockstep.specs.Tables.{count_of, ring_of}
-use Rattle.dn_lockstep.specs.Settling.{is_no_peer}
-use Rattle.dn_lockstep.specs.Told.{command_told}
+use Rattle.dn_lockstep.specs.{Contents.Contents, Tables.{count_of, ring_of}, Settling.is_no_peer, Told.command_told}
 use Rattle.dn_lockstep.proofs.Keeping.{get_within}
-use Rattle.dn_lockstep.specs.Represents as lockstep
 use Rattle.dn_survivor.specs.{declared.report.Tail.Tail, ReportBytes.AreInOrder, ReportBytes.AreTold, ReportBytes.IsTail, OfOthers.tells_either, OfOthers.count_told}
 use Rattle.dn_survivor.specs.{OfOthers.has, OfOthers.last_told, OfOthers.Tells, Represents.Represents, Surviving.Surviving, Telling.last_in, Telling.report_for, Telling.report_in}
-use Rattle.dn_survivor.specs.{Telling.tails_in, Telling.told_in, OneGame.AreTelling, OneGame.IsTelling, OneGame.Given}
+use Rattle.dn_survivor.specs.{Telling.{tails_in, told_in}, OneGame.{AreTelling, IsTelling, Given}}
 use Rattle.dn_survivor.proofs.Lists.{if_last, lasts, one_less, picks_few, two_less}
+use Rattle.dn_machine.specs.Node as machine
+use Rattle.dn_lockstep.specs.Represents as lockstep
 use Rattle.dn_survivor.specs.OfOthers as others
 use Rattle.dn_survivor.specs.Surviving as now
 
@@ -45,14 +39,6 @@ telling_more limits [] (u ∷ tellings) given t h is = absurd h
 telling_more limits (g ∷ reports) [] given t h is = absurd h
 telling_more limits (g ∷ reports) (u ∷ tellings) given t h is =
     (h.0, telling_more limits reports tellings given t h.1 is)
-
--- and there are as many
-pub as_many : (limits : Limits) (reports : List Given) (tellings : List Telling)
-    → AreTelling limits reports tellings → length reports ≡ length tellings
-as_many limits [] [] h = refl
-as_many limits [] (t ∷ tellings) h = absurd h
-as_many limits (g ∷ reports) [] h = absurd h
-as_many limits (g ∷ reports) (t ∷ tellings) h = ap suc (as_many limits reports tellings h.1)
 
 -- no report is for its sender
 pub told_apart : (limits : Limits) (me : ℕ) (wary : Wary) (to : ℕ) (told : Report)
@@ -193,14 +179,7 @@ module _ (limits : Limits) (me : ℕ) (old : Surviving) (wary : Wary) (r : Repre
         || (has old.others.gone to || not (now.has_left old || now.has_gone old)))
         ≡ (me == to || (wary.gone to || not (machine.has_left wary.node || has_gone limits wary))) =
         λ i. peer i || (given i || not (left i || gone i)) in
-        elim (cases_Bool (me == to || (wary.gone to || not (machine.has_left wary.node || has_gone limits wary)))) [
-          | inl none ↦
-              let both = same ∙ none in
-              rw (both, none) tt
-          | inr some ↦
-              let both = same ∙ some in
-              rw (both, some) tells
-        ]
+        grind (arith, machine.has_left, tells)
       where
         mirrored : is_no_peer limits.players me to ≡ (me == to)
         mirrored = grind (arith, below)

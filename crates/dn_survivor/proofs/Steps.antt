@@ -1,21 +1,18 @@
 -- All other calls of a survivor, and what a call leaves.
-use Rattle.std.proofs.Common.{◌≡◌, ◌<◌, ◌≤◌, ℕ, ℤ, Bool, List, refl, ap, ◌∙◌, Option, None, arith}
-use Rattle.std.specs.Prelude.{not, ◌&&◌, nat_lt, if◌then◌else◌}
-use Rattle.std.proofs.lemmas.Bool.{cond_both}
+use Rattle.std.proofs.Common.{◌≡◌, ◌<◌, ◌≤◌, ℕ, ℤ, Bool, List, refl, ap, ◌∙◌, Option, arith, not, nat_lt}
+use Rattle.std.proofs.{lemmas.Bool.cond_both}
 use Rattle.dn_tic.specs.declared.command.Move.{Move}
-use Rattle.dn_machine.specs.{Limits.Limits, Node.lowest, Node.ran, declared.answers.Ran.Ran, declared.answers.Phase.Phase, Running.is_off, Sparing.is_off_but, Sparing.on_run_but, Running.on_run_in}
-use Rattle.dn_machine.specs.{Running.on_run_playing, Running.is_awaited, declared.answers.Phase.TheVariants.Listening, declared.answers.Phase.TheVariants.Gathering, declared.answers.Phase.TheVariants.Playing}
-use Rattle.dn_machine.specs.{declared.answers.Phase.TheVariants.Ended, Node.Node, Node.put}
-use Rattle.dn_machine.specs.Node as machine
-use Rattle.dn_remain.specs.{Vanished.Calls.is_heard, Vanished.Commands.seen}
-use Rattle.dn_remain.specs.Wary.{Report, Wary, report_of, undecided, after_news, noted_gone, on_give_up, on_report, with_gone, with_report}
-use Rattle.dn_remain.proofs.{Each.run_but_cases, Each.news_cases, Each.give_up_cases, Each.report_cases}
-use Rattle.dn_lockstep.specs.Steps.{RunsBy, marks_in, row_told}
-use Rattle.dn_lockstep.specs.Represents as lockstep
-use Rattle.dn_lockstep.specs.{Contents.Contents, Steps.Steps}
+use Rattle.dn_machine.specs.{Limits.Limits, Node.{lowest, ran, Node, put}, declared.answers.{Ran.Ran, Phase.Phase}}
+use Rattle.dn_machine.specs.{Sparing.{on_run_but}}
+use Rattle.dn_remain.specs.Wary.{Report, Wary, report_of, undecided, after_news, noted_gone, on_give_up, on_report}
+use Rattle.dn_remain.specs.{Wary.{with_gone, with_report}, Vanished.{Calls.is_heard, Commands.seen}}
+use Rattle.dn_remain.proofs.Each.{run_but_cases, news_cases, give_up_cases, report_cases}
+use Rattle.dn_lockstep.specs.{Steps.{RunsBy, marks_in, row_told, Steps}, Contents.Contents}
 use Rattle.dn_lockstep.proofs.OneGame.{IsQuiet}
 use Rattle.dn_survivor.specs.{OfOthers.nodes_of, OfOthers.nothing_kept, OfOthers.own_of, Calls.undecided_in, Represents.Represents, Represents.nobody_gone, Surviving.Surviving, Surviving.has_given_up}
 use Rattle.dn_survivor.proofs.{OfOthers.first, Reports.lowest_alike}
+use Rattle.dn_machine.specs.Node as machine
+use Rattle.dn_lockstep.specs.Represents as lockstep
 use Rattle.dn_survivor.proofs.OfOthers as agreeing
 
 -- A call on the lockstep that a survivor lends.
@@ -45,8 +42,7 @@ module _ (limits : Limits) (me : ℕ) (wary : Wary) where
       (λ phase low apart new. news_quiet limits me (with_gone limits wary player) wary.node
       (noted_quiet limits wary.node player wary.node.phase))
 
-  pub report_quiet : (from : ℕ) (report : Report)
-      → IsQuiet wary.node (on_report limits me wary from report).0.node
+  pub report_quiet : (from : ℕ) (report : Report) → IsQuiet wary.node (on_report limits me wary from report).0.node
   report_quiet from report = report_cases limits me wary (λ (w : Wary). IsQuiet wary.node w.node) from report
       (refl, refl)
       (λ phase here there newer. news_quiet limits me (with_report wary from report) wary.node (refl, refl))
@@ -70,10 +66,7 @@ pub runs_alike : (limits : Limits) (one other : ℕ → Bool) (m : machine.Node)
     → ((p : ℕ) → p < limits.players → one p ≡ other p)
     → on_run_but limits one m marks ≡ on_run_but limits other m marks
 unfolding on_run_but
-runs_alike limits one other m marks same =
-    ap (λ (o : Option ℕ). on_run_in limits m marks (if nat_lt 12 (ran m) then o else None) m.phase)
-    (lowest_alike limits.players (is_off_but one m) (is_off_but other m)
-    (λ p h. ap (λ (b : Bool). not b && is_off m p) (same p h)))
+runs_alike limits one other m marks same = grind (arith, nat_lt, ran, lowest_alike)
 
 -- whose report is missing
 pub asked : (limits : Limits) (me : ℕ) (old : Surviving) (wary : Wary) → Represents limits me old wary
@@ -90,8 +83,7 @@ module _ (limits : Limits) (me : ℕ) (old new : Surviving) (wary : Wary) (r : R
   pub runs : (marks : List ℤ) (did : Ran) (row : Option (List (Option Move)))
       → RunsBy marks old.lockstep new.lockstep
       (λ limits m marks. on_run_but limits (has_given_up old) m marks)
-      (λ answer told. (did ≡ answer) × (row ≡ told))
-      → new.others ≡ old.others
+      (λ answer told. (did ≡ answer) × (row ≡ told)) → new.others ≡ old.others
       → Represents limits me new (record wary { node = (on_run_but limits wary.gone wary.node (marks_in marks)).0 })
       × (did ≡ (on_run_but limits wary.gone wary.node (marks_in marks)).1)
       × (row ≡ row_told limits wary.node (on_run_but limits wary.gone wary.node (marks_in marks)).1)

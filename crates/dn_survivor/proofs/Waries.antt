@@ -1,16 +1,15 @@
 -- The calls of a survivor are those of a node of `dn_remain`.
-use Rattle.std.proofs.Common.{◌≡◌, ◌≢◌, ◌<◌, ◌≤◌, ℕ, Bool, true, false, refl, ap, subst, ◌∙◌, arith, inl, inr, Option, Some, None}
-use Rattle.std.specs.Prelude.{not, if◌then◌else◌}
-use Rattle.std.proofs.lemmas.Bool.{cases_Bool, cond_both, true≢false}
+use Rattle.std.proofs.Common.{◌≡◌, ◌≢◌, ◌<◌, ◌≤◌, ℕ, Bool, true, false, refl, ap, subst, ◌∙◌, arith, inl, inr, Option}
+use Rattle.std.proofs.{Common.{Some, None, not, if◌then◌else◌}, lemmas.Bool.{cases_Bool, cond_both, true≢false}}
 use Rattle.dn_survivor.specs.{declared.report.Report.Report as Told, declared.others.Others.Others, OfOthers.has, OfOthers.reported_as, OfOthers.with_newest, OfOthers.Tells}
 use Rattle.dn_survivor.specs.{declared.answers.Ends.Ends, declared.answers.GivenUp.GivenUp, declared.answers.Reported.Reported, Calls.decided_by, Surviving.Surviving, Calls.GivesUp, Calls.GivesUpUnless}
 use Rattle.dn_survivor.specs.{Calls.HearsReport, Calls.given_up_as, Calls.given_up_by, Calls.heard_by, Calls.refused_give_up, Calls.refused_report, Calls.reported_by, Represents.CanTakeAll, Represents.Represents}
 use Rattle.dn_survivor.specs.{Represents.given_up_is, Represents.reported_is}
 use Rattle.dn_machine.specs.{declared.answers.Phase.Phase, Limits.Limits, Node.put}
 use Rattle.dn_machine.proofs.Put.{put_off}
-use Rattle.dn_lockstep.specs.{Settling.is_no_peer, Settling.on_excuse, Settling.on_excuse_in, Steps.IsAfter, Steps.Steps}
-use Rattle.dn_remain.specs.{Vanished.Calls.is_newer, Vanished.Commands.seen, Wary.Report, Wary.Wary, Wary.after_news, Wary.can_settle, Wary.is_in_game, Wary.newest_seen, Wary.noted_gone, Wary.on_give_up, Wary.on_report}
-use Rattle.dn_remain.specs.{Wary.with_gone, Wary.with_report}
+use Rattle.dn_lockstep.specs.{Settling.{is_no_peer, on_excuse, on_excuse_in}, Steps.{IsAfter, Steps}}
+use Rattle.dn_remain.specs.Wary.{Report, Wary, after_news, can_settle, is_in_game, newest_seen, noted_gone, on_give_up}
+use Rattle.dn_remain.specs.{Wary.{on_report, with_gone, with_report}, Vanished.{Calls.is_newer, Commands.seen}}
 use Rattle.dn_survivor.proofs.Ends.{decides, tests}
 use Rattle.dn_machine.specs.Node as machine
 use Rattle.dn_lockstep.specs.Represents as lockstep
@@ -168,8 +167,7 @@ module _ (limits : Limits) (me : ℕ) (old new : Surviving) (wary : Wary) (r : R
   -- a report comes
   module _ (from : ℕ) (report : Told) (holder : Report) (answer : Reported) (player : from < limits.players)
       (other : from ≢ me) (tells : Tells limits.players limits.places me from holder report)
-      (can : is_in_game wary.node.phase ≡ true
-      → can_settle limits me (with_report wary from holder) ≡ true
+      (can : is_in_game wary.node.phase ≡ true → can_settle limits me (with_report wary from holder) ≡ true
       → CanTakeAll limits me (with_report wary from holder)) where
     abbrev IsReported : Wary × remain_reported.Reported → Type 0
     IsReported after = Represents limits me new after.0 × (answer ≡ reported_is after.1)
@@ -207,8 +205,7 @@ module _ (limits : Limits) (me : ℕ) (old new : Surviving) (wary : Wary) (r : R
         (λ a. answer ≡ a)
         → IsReported (
           after_news limits me told_now,
-          if can_settle limits me told_now then remain_reported.Reported.Decided
-              else remain_reported.Reported.Kept,
+          if can_settle limits me told_now then remain_reported.Reported.Decided else remain_reported.Reported.Kept,
         )
     hears here h =
         let after : heard_by limits me (with_newest old.others from report) wary.node

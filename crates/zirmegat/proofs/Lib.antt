@@ -1,6 +1,8 @@
-pub mod Handles
-pub mod HandleFunctions
-pub mod HandleLends
 pub mod Values
+pub mod Holders
+pub mod HolderFunctions
+pub mod HolderLends
+pub mod SlotFunctions
+pub mod OfKinds
 pub mod Calling
-pub mod Opening
+pub mod Turning

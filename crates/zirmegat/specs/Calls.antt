@@ -1,64 +1,60 @@
--- What a call on a handle does to what the handle holds, and what it answers, whatever the handle holds.
-use Rattle.std.specs.Prelude.{◌≡◌, Option, Some, None, if◌then◌else◌, ℕ, Bool, List}
+-- What a call does to a handle and to what it holds, whatever that is.
+use Rattle.std.specs.Prelude.{◌≡◌, ◌⊎◌, ⊤, ℕ, List, Option, Some, None, Result, Ok, Err}
 use Rattle.std.specs.Option.{option_map}
-use Rattle.dn_lockstep.specs.Contents.{Contents, contents}
-use Rattle.zirmegat.specs.declared.handle.LockstepHandle.{LockstepHandle}
 use Rattle.arrayvec.specs.ArrayVec.{ArrayVec}
-use Rattle.dn_tic.specs.declared.command.Move.{Move}
+use Rattle.dn_demo.specs.Reading.{Recording}
+use Rattle.dn_lockstep.specs.Contents.{Contents}
 use Rattle.dn_packet.specs.Written.{IsWritten}
-use Rattle.dn_setup.specs.Settings.{bit}
-use Rattle.dn_machine.specs.declared.answers.Made.{Made}
-use Rattle.dn_machine.specs.declared.answers.Ran.{Ran}
-use Rattle.dn_lockstep.specs.Steps.{told_by}
-use Rattle.zirmegat.specs.declared.answers.MadeAnswer.{MadeAnswer}
-use Rattle.zirmegat.specs.declared.answers.MoveAnswer.{MoveAnswer}
-use Rattle.zirmegat.specs.declared.answers.RanAnswer.{RanAnswer}
-use Rattle.zirmegat.specs.Answers.{made_told, ran_told, row_told_over}
+use Rattle.dn_session.specs.Session.{Meeting}
+use Rattle.zirmegat.specs.declared.fault.Fault.{Fault}
+use Rattle.zirmegat.specs.declared.handle.Handle.{Handle}
+use Rattle.zirmegat.specs.declared.held.Held.{Held}
+use Rattle.zirmegat.specs.declared.slot.Slot.{Slot}
+use Rattle.zirmegat.specs.{Faults.fault_code, Joined.Joined, Kinds.contents_in, Kinds.demo_in, Kinds.joined_in, Kinds.meeting_in}
 
--- the node of a handle
-abbrev pub lockstep_of : LockstepHandle → Option Contents
-lockstep_of h = if h.live then option_map contents h.node else None
+-- what a handle holds, by its kind
+abbrev pub session_of : Handle → Option Meeting
+session_of h = meeting_in h.held
 
--- a handle that held a node holds it after a step; one that held none still holds none, and the answer is the
--- empty one
-abbrev pub Calls : {A : Type 0} → Option A → Option A → (A → A → Type 0) → Type 0 → Type 0
-Calls (Some old) (Some new) Step Empty = Step old new
-Calls None None Step Empty = Empty
-Calls (Some old) None Step Empty = ⊥
-Calls None (Some new) Step Empty = ⊥
+abbrev pub demo_of : Handle → Option Recording
+demo_of h = demo_in h.held
 
--- the same where nothing changes
-abbrev pub Reads : {A : Type 0} → Option A → Option A → (A → Type 0) → Type 0 → Type 0
-Reads old new IsAnswer Empty = Calls old new (λ n k. (k ≡ n) × IsAnswer n) Empty
+abbrev pub lockstep_of : Handle → Option Contents
+lockstep_of h = contents_in h.held
 
--- what is held takes a step, whose result is told; where none is held, the answer is the empty one
-abbrev pub Answers : {A R T : Type 0} → (R → T) → T → (A → A → R → Type 0) → Option A → Option A → T → Type 0
-Answers {A} {R} told empty Step old new answer =
-    Calls old new (λ n k. (result : R) × (answer ≡ told result) × Step n k result) (answer ≡ empty)
+abbrev pub link_of : Handle → Option Joined
+link_of h = joined_in h.held
 
--- the step makes a command, or none
-abbrev pub AnswersMade : {A : Type 0} → (A → A → Made → Type 0) → Option A → Option A → MadeAnswer → Type 0
-AnswersMade Step old new answer = Answers made_told (made_told Made.NotPlaying) Step old new answer
+-- what is held where C keeps a pointer to a handle
+abbrev pub held_at : Slot → Option Held
+held_at s = option_map (λ h. h.held) s.handle
 
--- the step ends it, and its result is whether it had not ended
-abbrev pub AnswersQuit : {A : Type 0} → (A → A → Bool → Type 0) → Option A → Option A → ℕ → Type 0
-AnswersQuit Step old new answer = Answers bit 0 Step old new answer
+abbrev pub CallsBy : {A : Type 0} → Option A → Option A → Handle → Handle → (A → A → Type 0) → Type 0 → Type 0
+CallsBy {A} (Some n) after old new Step Other = (k : A) × (after ≡ Some k) × Step n k
+CallsBy None after old new Step Other = (new ≡ old) × Other
 
--- the step runs a tic or none, and the moves are written over a row, if it ran one
-abbrev pub AnswersRan : {A : Type 0} → (A → A → Ran → Option (List (Option Move)) → Type 0) → Option A → Option A
-    → List MoveAnswer → List MoveAnswer → RanAnswer → Type 0
-AnswersRan Step old new row written answer =
-    Calls old new (λ n k. (ran : Ran) × (moves : List (Option Move)) × (answer ≡ ran_told ran)
-    × (written ≡ row_told_over row (told_by ran moves)) × Step n k ran (told_by ran moves))
-    ((answer ≡ ran_told Ran.NotPlaying) × (written ≡ row))
+-- what a handle of the kind holds takes a step; a handle of another stays as it is, and this is so
+abbrev pub Calls : {A : Type 0} → (Handle → Option A) → Handle → Handle → (A → A → Type 0) → Type 0 → Type 0
+Calls of old new Step Other = CallsBy (of old) (of new) old new Step Other
+
+-- the same where what it holds stays as it is
+abbrev pub Reads : {A : Type 0} → (Handle → Option A) → Handle → Handle → (A → Type 0) → Type 0 → Type 0
+Reads of old new IsAnswer Other = Calls of old new (λ n k. (k ≡ n) × IsAnswer n) Other
+
+abbrev pub WhenBy : {A : Type 0} → Option A → Option A → (A → A → Type 0) → Type 0
+WhenBy {A} (Some n) after Step = (k : A) × (after ≡ Some k) × Step n k
+WhenBy None after Step = ⊤
+
+-- what a handle of the kind holds takes a step
+abbrev pub When : {A : Type 0} → (Handle → Option A) → Handle → Handle → (A → A → Type 0) → Type 0
+When of old new Step = WhenBy (of old) (of new) Step
+
+-- what was made is kept, or there is no memory for it, or none was made
+abbrev pub IsKept : {A : Type 0} → (A → Held) → Result A Fault → ℕ → Option Held → Type 0
+IsKept kind (Ok value) code kept = ((code ≡ 0) × (kept ≡ Some (kind value))) ⊎ ((code ≡ 3) × (kept ≡ None))
+IsKept kind (Err fault) code kept = (code ≡ fault_code fault) × (kept ≡ None)
 
 -- bytes are written to the front of a room, or none are, and the room stays as it was
 abbrev pub IsPut : Option (ArrayVec ℕ) → List ℕ → List ℕ → ℕ → Type 0
 IsPut (Some bytes) room written count = IsWritten bytes.items room written count
 IsPut None room written count = (count ≡ 0) × (written ≡ room)
-
--- the step writes so many bytes to the front of a room, or none
-abbrev pub AnswersPut : {A : Type 0} → (List ℕ → List ℕ → ℕ → A → A → Type 0) → Option A → Option A
-    → List ℕ → List ℕ → ℕ → Type 0
-AnswersPut Step old new room written count =
-    Calls old new (Step room written count) ((count ≡ 0) × (written ≡ room))

@@ -1,61 +1,28 @@
--- A link behind a handle, and what its calls do.
-use Rattle.std.specs.Prelude.{◌≡◌, ◌≤◌, nat_abs, ℕ, ℤ, List, pos, Option, None, Some, IfSome, is_some, if◌then◌else◌, Result, Ok, Err}
-use Rattle.std.specs.Option.{option_map}
+-- What the calls on a link do.
+use Rattle.std.specs.Prelude.{◌≡◌, ℕ, ℤ, List, Option, None, Some, IfSome, is_some, if◌then◌else◌}
 use Rattle.arrayvec.specs.ArrayVec.{ArrayVec}
-use Rattle.dn_setup.specs.Settings.{IsCheckedAs, Settings}
-use Rattle.dn_setup.specs.declared.settings.SettingsFault.{SettingsFault}
-use Rattle.dn_lockstep.specs.Contents.{Contents, whose}
-use Rattle.dn_lockstep.specs.declared.config.NodeFault.{NodeFault}
-use Rattle.dn_lockstep.specs.Opening.{IsAdmittedWithin, keyed, limits_within, whose_within}
-use Rattle.dn_lockstep.specs.Represents.{Represents}
-use Rattle.dn_lockstep.specs.Sent.{IsFair}
-use Rattle.dn_lockstep.specs.Sent.{sent_to}
+use Rattle.dn_lockstep.specs.Contents.{Contents}
+use Rattle.dn_lockstep.specs.Sent.{IsFair, sent_to}
 use Rattle.dn_lockstep.specs.Steps.{Steps, Tells}
+use Rattle.dn_lockstep.specs.declared.lockstep.settling.Settled.{Settled}
 use Rattle.dn_machine.specs.declared.answers.Made.{Made}
 use Rattle.dn_machine.specs.declared.answers.Made.TheVariants.{Full, NotPlaying}
 use Rattle.dn_machine.specs.declared.answers.Ran.{Ran}
 use Rattle.dn_machine.specs.Sending.{on_build}
-use Rattle.dn_machine.specs.Started.{started_node}
 use Rattle.dn_tic.specs.declared.input.Input.{Input}
 use Rattle.dn_tic.specs.declared.command.Move.{Move}
-use Rattle.dn_survivor.specs.OfOthers.{nothing_kept}
 use Rattle.dn_survivor.specs.declared.answers.GivenUp.{GivenUp}
-use Rattle.dn_seal.specs.declared.seal.Seal.{Seal}
-use Rattle.dn_link.specs.declared.link.Link.{Link}
+use Rattle.dn_link.specs.declared.bundle.BundleFault.{BundleFault}
 use Rattle.dn_link.specs.declared.received.Received.{Received}
 use Rattle.dn_link.specs.declared.tally.Figures.{Figures}
 use Rattle.dn_link.specs.Leaning.{IsLean}
-use Rattle.dn_link.specs.Linked.{figures_of}
-use Rattle.dn_link.specs.Linked.{IsWhole, Linked, Gives, Receives, has_given_up, is_peer, remains}
-use Rattle.dn_link.specs.Linking.{linked, new_peer, seal_of}
+use Rattle.dn_link.specs.Linked.{figures_of, IsWhole, Linked, Gives, Receives, has_given_up, is_peer, remains}
 use Rattle.dn_link.specs.Pace.{Paces, after_giving, after_input, after_tick, lean, still_owed}
 use Rattle.dn_link.specs.Pacing.{PaceState}
-use Rattle.dn_link.specs.Pacing.{new_pace, pace_of}
 use Rattle.dn_link.specs.Surviving.{GivesUpPeer}
-use Rattle.zirmegat.specs.declared.answers.MadeAnswer.{MadeAnswer}
-use Rattle.zirmegat.specs.declared.config.NodeConfig.{NodeConfig}
-use Rattle.zirmegat.specs.declared.link_answers.LineAnswer.{LineAnswer}
+use Rattle.zirmegat.specs.declared.link_answers.GiveUpAnswer.{GiveUpAnswer}
 use Rattle.zirmegat.specs.declared.link_answers.ReceivedAnswer.{ReceivedAnswer}
-use Rattle.zirmegat.specs.declared.link_handle.LinkHandle.{LinkHandle}
-use Rattle.zirmegat.specs.Answers.{made_told}
-use Rattle.zirmegat.specs.Going.{Builds, Runs, RunsBut}
-use Rattle.zirmegat.specs.Opening.{choice_in, config_of}
-use Rattle.zirmegat.specs.Calls.{IsPut}
-use Rattle.zirmegat.specs.Codes.{bundle_code, fault_code, settings_code}
-
--- a link, what it keeps for its pace, and what it has in common with the others of its game
-pub record Joined : Type 0 where
-  pub link : Linked
-  pub pace : PaceState
-  pub seal : Seal
-
-abbrev pub joined_of : Link → Joined
-joined_of link =
-    record { link = linked link; pace = pace_of link; seal = seal_of link }
-
--- the link of a handle
-abbrev pub link_of : LinkHandle → Option Joined
-link_of h = if h.live then option_map joined_of h.link else None
+use Rattle.zirmegat.specs.{Calls.IsPut, Going.Builds, Going.Runs, Going.RunsBut, Joined.Joined, Locksteps.made_code}
 
 -- what it has in common with the others stays
 abbrev pub StaysOf : Joined → Joined → Type 0
@@ -87,33 +54,6 @@ abbrev pub RunsOf : List ℤ → Linked → Contents → Contents → Ran → Op
 RunsOf marks link old new ran row =
     (IsWhole link → Runs marks old new ran row) × RunsBut (has_given_up link) marks old new ran row
 
--- its lockstep plays with these settings from the beginning on, nobody is given up, nothing is known of its
--- peers, nor of its pace, and it has this seal
-abbrev pub IsNew : NodeConfig → Settings → ℕ → Seal → Joined → Type 0
-IsNew config settings ahead seal n =
-    Represents (limits_within (config_of config None) ahead) config.me n.link.node
-    (started_node config.players settings config.me)
-    × (whose n.link.node ≡ whose_within (config_of config None) ahead)
-    × (n.link.others ≡ nothing_kept) × ((player : ℕ) → n.link.peers player ≡ new_peer) × (n.pace ≡ new_pace) × (n.seal ≡ seal)
-
--- 0 and the link that was made, or why there is none
-abbrev pub IsLinkMade : NodeConfig → Settings → ℕ → Seal → Result Joined NodeFault → ℕ → Option Joined → Type 0
-IsLinkMade config settings ahead seal (Ok made) code link =
-    (code ≡ 0) × (link ≡ Some made) × IsNew config settings ahead seal made
-IsLinkMade config settings ahead seal (Err fault) code link = (code ≡ fault_code fault) × (link ≡ None)
-
-abbrev pub OpensLinkBy : NodeConfig → ℕ → Seal → Result Settings SettingsFault → ℕ → Option Joined → Type 0
-OpensLinkBy config ahead seal (Err fault) code link = (code ≡ settings_code fault) × (link ≡ None)
-OpensLinkBy config ahead seal (Ok settings) code link =
-    (made : Result Joined NodeFault) × IsAdmittedWithin (keyed (config_of config None) settings) ahead made
-    × IsLinkMade config settings ahead seal made code link
-
--- the settings are looked at first, then the window, and then the rest
-abbrev pub OpensLink : NodeConfig → ℕ → Seal → ℕ → Option Joined → Type 0
-OpensLink config ahead seal code link =
-    (checked : Result Settings SettingsFault) × IsCheckedAs (choice_in config.settings) checked
-    × OpensLinkBy config ahead seal checked code link
-
 -- it gives each peer who is not given up a datagram, which no other number gets, and for which it stays as it
 -- is
 abbrev pub GivesOut : ℕ → List ℕ → List ℕ → ℕ → Joined → Joined → Type 0
@@ -137,44 +77,57 @@ Leans n k answer =
 abbrev pub GivesUpIn : ℕ → Joined → Joined → GivenUp → Type 0
 GivesUpIn player n k answer = GivesUpPeer player n.link k.link answer × (k.pace ≡ n.pace) × StaysOf n k
 
--- bytes that are no datagram are told with the number of their fault; 0 is for no link
-abbrev pub unopened : ℕ → ReceivedAnswer
-unopened reason = record { code = 2; reason = reason; player = 0 }
+-- why bytes are no datagram of a link; 0 is for no link
+abbrev pub bundle_code : BundleFault → ℕ
+bundle_code BundleFault.Short = 1
+bundle_code BundleFault.Long = 2
+bundle_code BundleFault.Suite = 3
+bundle_code BundleFault.Kind = 4
+bundle_code BundleFault.Game = 5
+bundle_code BundleFault.Receiver = 6
+bundle_code BundleFault.Tag = 7
+bundle_code BundleFault.Form = 8
+
+abbrev pub received_at : ℕ → ℕ → ℕ → ReceivedAnswer
+received_at code reason player = record { code = code; reason = reason; player = player }
 
 abbrev pub received_told : Received → ReceivedAnswer
-received_told (Received.Heard player) = record { code = 0; reason = 0; player = player }
-received_told (Received.Stranger player) = record { code = 1; reason = 0; player = player }
-received_told (Received.GivenUp player) = record { code = 3; reason = 0; player = player }
-received_told (Received.Excluded player) = record { code = 4; reason = 0; player = player }
-received_told (Received.Unopened fault) = unopened (bundle_code fault)
+received_told (Received.Heard player) = received_at 1 0 player
+received_told (Received.Stranger player) = received_at 2 0 player
+received_told (Received.GivenUp player) = received_at 3 0 player
+received_told (Received.Excluded player) = received_at 4 0 player
+received_told (Received.Unopened fault) = received_at 0 (bundle_code fault) 0
 
--- what came of a build that was owed
-abbrev pub owed_told : Option Made → MadeAnswer
-owed_told None = record { code = 3; tic = 0 }
-owed_told (Some made) = made_told made
+-- what came of a command that was owed: it is not possible to make none
+abbrev pub owed_code : Option Made → ℕ
+owed_code None = 5
+owed_code (Some made) = made_code made
+
+-- why an end cannot be taken
+abbrev pub settled_code : Settled → ℕ
+settled_code (Settled.Taken count) = 0
+settled_code Settled.NotAPlayer = 1
+settled_code Settled.NotPlaying = 2
+settled_code Settled.Gap = 3
+settled_code Settled.Behind = 4
+settled_code Settled.Overrun = 5
+settled_code Settled.Stopper = 6
+settled_code Settled.OtherEnd = 7
+
+abbrev pub give_up_at : ℕ → ℕ → ℕ → GiveUpAnswer
+give_up_at code reason player = record { code = code; reason = reason; player = player }
+
+abbrev pub give_up_told : GivenUp → GiveUpAnswer
+give_up_told GivenUp.NotPlaying = give_up_at 0 0 0
+give_up_told GivenUp.Waiting = give_up_at 1 0 0
+give_up_told GivenUp.Decided = give_up_at 2 0 0
+give_up_told (GivenUp.Untaken player reason) = give_up_at 3 (settled_code reason) player
+give_up_told GivenUp.Already = give_up_at 4 0 0
+give_up_told GivenUp.NotAPlayer = give_up_at 5 0 0
 
 -- why a peer has left, if its datagrams told
 abbrev pub left_of : ℕ → Linked → Option ℕ
 left_of player link = if is_peer link.node player then (link.peers player).left else None
-
--- a line of these numbers
-abbrev pub line_at : ℕ → ℕ → ℕ → ℕ → ℕ → ℕ → ℤ → ℤ → LineAnswer
-line_at known came lost repeated too_old missing_there lead lead_there =
-    record {
-      known = known;
-      came = came;
-      lost = lost;
-      repeated = repeated;
-      too_old = too_old;
-      missing_there = missing_there;
-      lead = lead;
-      lead_there = lead_there;
-    }
-
--- what is known of the line to a player
-abbrev pub line_told : Option Figures → LineAnswer
-line_told (Some f) = line_at 1 f.came f.lost f.repeated f.too_old f.missing_there f.lead f.lead_there
-line_told None = line_at 0 0 0 0 0 0 (pos 0) (pos 0)
 
 abbrev pub figures_at : ℕ → Joined → Option Figures
 figures_at player n =

@@ -1,7 +1,7 @@
 -- What is known of a session and of its players, as plain numbers.
 use Rattle.std.specs.Prelude.{ℕ, ◌-◌, ◌==◌, pos, nat_lt, if◌then◌else◌, List, [], replicate, slice_get, slice_index_or, Option, Some, None}
 use Rattle.std.specs.Option.{option_map}
-use Rattle.dn_setup.specs.Settings.{Settings, bit}
+use Rattle.dn_setup.specs.Settings.{bit}
 use Rattle.dn_lockstep.specs.Tables.{count_of}
 use Rattle.dn_link.specs.Linked.{figures_of, is_peer, may_leave, unacknowledged, Linked}
 use Rattle.dn_link.specs.Linking.{linked}
@@ -27,19 +27,17 @@ use Rattle.dn_session.specs.Hosting.{lobby}
 use Rattle.dn_session.specs.Joining.{joining}
 use Rattle.dn_session.specs.Playing.{playing, view}
 use Rattle.dn_session.specs.Session.{Meeting}
-use Rattle.zirmegat.specs.declared.config.GameSettings.{GameSettings}
-use Rattle.zirmegat.specs.declared.session_answers.OverAnswer.{OverAnswer}
-use Rattle.zirmegat.specs.declared.session_config.TermsFields.{TermsFields}
+use Rattle.zirmegat.specs.declared.over.OverAnswer.{OverAnswer}
 use Rattle.zirmegat.specs.declared.session_player.PlayerAnswer.{PlayerAnswer}
 use Rattle.zirmegat.specs.declared.session_player.PlayerInGame.{PlayerInGame}
 use Rattle.zirmegat.specs.declared.session_player.SeatAnswer.{SeatAnswer}
 use Rattle.zirmegat.specs.declared.session_state.GameAnswer.{GameAnswer}
 use Rattle.zirmegat.specs.declared.session_state.SessionAnswer.{SessionAnswer}
-use Rattle.zirmegat.specs.Answers.{number_told, phase_told}
 use Rattle.zirmegat.specs.Commands.{end_of, got_of}
-use Rattle.zirmegat.specs.Links.{line_told}
-use Rattle.zirmegat.specs.SessionCodes.{ending_told, hint_told, over_at, policy_code, policy_seconds, refusal_told}
-use Rattle.zirmegat.specs.SessionConfigs.{no_name}
+use Rattle.zirmegat.specs.Lines.{end_told, got_told, line_told}
+use Rattle.zirmegat.specs.Over.{ending_told, hint_told, not_over, refusal_told}
+use Rattle.zirmegat.specs.Phases.{phase_told}
+use Rattle.zirmegat.specs.Terms.{no_name, terms_told}
 
 -- its player's demo, once it plays
 abbrev pub demo_of : Option Part → List ℕ
@@ -47,49 +45,6 @@ demo_of None = []
 demo_of (Some part) = (linked (playing part).link).node.demo.bytes
 
 -- The terms.
-
-abbrev pub choice_told : Settings → GameSettings
-choice_told s =
-    record {
-      skill = s.skill;
-      deathmatch = s.deathmatch;
-      no_monsters = bit s.no_monsters;
-      respawn = bit s.respawn;
-      episode = s.episode;
-      map = s.map;
-    }
-
-abbrev pub no_choice : GameSettings
-no_choice = record { skill = 0; deathmatch = 0; no_monsters = 0; respawn = 0; episode = 0; map = 0 }
-
--- all 0 where they are not known
-abbrev pub terms_told : Option Terms → TermsFields
-terms_told (Some t) =
-    record {
-      limit = t.limit;
-      policy = policy_code t.policy;
-      seconds = policy_seconds t.policy;
-      players = t.players;
-      extra = bit t.extra;
-      ahead = t.ahead;
-      rate = t.rate;
-      settings = choice_told t.settings;
-      identity = t.identity;
-      own = t.own;
-    }
-terms_told None =
-    record {
-      limit = 0;
-      policy = 0;
-      seconds = 0;
-      players = 0;
-      extra = 0;
-      ahead = 0;
-      rate = 0;
-      settings = no_choice;
-      identity = no_name;
-      own = replicate 256 0;
-    }
 
 -- a host knows them, and one who joins once it was told them
 abbrev pub terms_of : Side → Option Terms
@@ -130,14 +85,14 @@ where_of side (Some part) = progress_code (playing part).progress
 abbrev pub stage_over : Stage → OverAnswer
 stage_over (stage.Refused refusal) = refusal_told refusal
 stage_over (stage.Hinted hint) = hint_told hint
-stage_over stage = over_at 0 0
+stage_over stage = not_over
 
 abbrev pub side_over : Side → OverAnswer
-side_over (side.Host host) = over_at 0 0
+side_over (side.Host host) = not_over
 side_over (side.Joiner joiner) = stage_over (joining joiner).stage
 
 abbrev pub progress_over : Progress → OverAnswer
-progress_over progress.Playing = over_at 0 0
+progress_over progress.Playing = not_over
 progress_over (progress.Leaving ending since free) = ending_told ending
 progress_over (progress.Over ending) = ending_told ending
 
@@ -175,9 +130,6 @@ state_told m =
       me = me_of m.lobby;
       terms = terms_told (terms_of m.lobby);
     }
-
-abbrev pub no_state : SessionAnswer
-no_state = record { stage = 0; why = over_at 0 0; game = no_game; me = 0; terms = terms_told None }
 
 -- A player: its seat in the lobby.
 
@@ -227,7 +179,7 @@ seen_in now part player =
 
 abbrev pub not_seen : PlayerInGame
 not_seen =
-    record { standing = 0; awaited = 0; silent = 0; got = number_told None; end = number_told None; line = line_told None }
+    record { standing = 0; awaited = 0; silent = 0; got = 0; end = end_told None; line = line_told None }
 
 -- with how many commands of it are here, where they end, and the line to it
 abbrev pub seen_told : Link → ℕ → Option Seen → PlayerInGame
@@ -237,8 +189,8 @@ seen_told link player (Some seen) =
       standing = standing_code seen.standing;
       awaited = seen.awaited;
       silent = seen.silent;
-      got = number_told (got_of (linked link).node player);
-      end = number_told (end_of (linked link).node player);
+      got = got_told (got_of (linked link).node player);
+      end = end_told (end_of (linked link).node player);
       line = line_told (if is_peer (linked link).node player then Some (figures_of ((pace_of link).lines player)) else None);
     }
 
@@ -248,6 +200,3 @@ in_game now (Some part) player = seen_told (playing part).link player (seen_in n
 
 abbrev pub player_told : ℕ → ℕ → Meeting → PlayerAnswer
 player_told player now m = record { seat = seat_in now m.lobby player; game = in_game now m.part player }
-
-abbrev pub no_player : PlayerAnswer
-no_player = record { seat = no_seat 0; game = not_seen }

@@ -1,113 +1,119 @@
-//! A lockstep behind a pointer.
+//! What C holds a pointer to: a pointer to what a handle holds.
 
-ghost use Rattle.std.specs.{Prelude.◌≡◌, Prelude.true, Prelude.false, Prelude.Some, Prelude.None, Prelude.Option, Prelude.IfSome, Borrow.sem, Option.option_map};
-ghost use Rattle.dn_lockstep.specs.{Contents.contents, declared.lockstep.Lockstep.Lockstep as Kept};
+ghost use Rattle.std.specs.{Prelude.◌≡◌, Borrow.sem, Option.option_map};
+ghost use Rattle.zirmegat.specs.contracts.held.Held as kept;
+ghost use Rattle.zirmegat.specs.declared.held.Held.{Held as Kept};
 
+use crate::held::Held;
 use crate::loose::Loose;
+use dn_demo::Demo;
+use dn_link::Link;
 use dn_lockstep::Lockstep;
+use dn_session::Session;
 use std::alloc::Global;
 use std::marker::Model;
-use std::mem;
 
-/// A lockstep, or none. C keeps it, and never reads its fields.
+/// A pointer to what a handle holds. C never reads its field.
 #[repr(C)]
 #[derive(Drop)]
-pub struct LockstepHandle {
-    live: bool,
+pub struct Handle {
     at: *mut u8,
-    ghost node: { Option Kept },
+    ghost held: { Kept } by { kept.the_row.coded },
 }
 
-impl Model for LockstepHandle {
-    ghost use Rattle.zirmegat.specs.Held.{held_lockstep};
+impl Model for Handle {
+    ghost use Rattle.zirmegat.specs.Owned.{owns_held};
 
-    ghost also_owns = { λ h. held_lockstep h.live h.at h.node };
+    ghost also_owns = { λ h. owns_held h.at h.held };
 }
 
-impl LockstepHandle {
-    ghost use Rattle.zirmegat.specs.{Calls.lockstep_of, Lends.lends_lockstep, Lends.lends_held};
-
-    /// The handle that holds nothing.
-    fn none() -> LockstepHandle
-        ensures { result.live ≡ false }
-    {
-        LockstepHandle {
-            live: false,
-            at: std::ptr::null_mut(),
-        }
-    }
+impl Handle {
+    ghost use Rattle.zirmegat.specs.Lends.{lends_demo, lends_held, lends_link, lends_lockstep, lends_session};
+    ghost use Rattle.zirmegat.specs.Kinds.{demo_in, link_in, lockstep_in, session_in};
 
     /// The handle of what a raw box points to.
-    fn of_loose(loose: Loose<Lockstep, Global>) -> LockstepHandle
-        ensures { (result.live ≡ true) × (result.node ≡ Some loose.value) }
+    fn of_loose(loose: Loose<Held, Global>) -> Handle
+        ensures { result.held ≡ loose.value }
     {
         let Loose { at, alloc: _ } = loose;
-        LockstepHandle {
-            live: true,
-            at: at as *mut u8,
-        }
+        Handle { at: at as *mut u8 }
     }
 
-    /// The raw box of a handle that holds one.
-    fn into_loose(self, alloc: Global) -> Loose<Lockstep, Global>
-        requires { self.live ≡ true }
-        ensures { Some result.value ≡ self.node }
+    /// The raw box of what it holds.
+    fn into_loose(self, alloc: Global) -> Loose<Held, Global>
+        ensures { result.value ≡ self.held }
     {
-        let LockstepHandle { live: _, at } = self;
+        let Handle { at } = self;
         Loose {
-            at: at as *mut Lockstep,
+            at: at as *mut Held,
             alloc,
         }
     }
 
-    /// Whether it holds one.
-    fn is_live(&mut self) -> bool
-        ensures { (result ≡ self.old.live) × (self.new ≡ self.old) }
+    /// The handle of a box.
+    pub(crate) fn of(held: Box<Held>) -> Handle
+        ensures { result.held ≡ held.value }
     {
-        self.live
+        Handle::of_loose(Loose::of(held))
     }
 
-    /// The handle of this lockstep.
-    pub(crate) fn of(node: Box<Lockstep>) -> LockstepHandle
-        ensures { lockstep_of result ≡ Some (contents node.value) }
+    /// The box again.
+    pub(crate) fn into_box(self, alloc: Global) -> Box<Held>
+        ensures { result.value ≡ self.held }
     {
-        LockstepHandle::of_loose(Loose::of(node))
+        self.into_loose(alloc).into_box()
     }
 
-    /// Lends the lockstep of a handle that holds one.
-    fn lend(&mut self) -> &mut Lockstep
-        requires { self.old.live ≡ true }
-        ensures* writes_back { sem 𝓛 (lends_lockstep self.entry result) }
-        ensures value { Some result.now ≡ self.old.node }
-    {
-        // SAFETY: a live handle owns a box, and this points to its node (`held_lockstep`).
-        unsafe { &mut *(self.at as *mut Lockstep) }
-    }
-
-    /// Lends the lockstep, if there is one. One that is taken out costs more, and must be put back.
-    pub(crate) fn held(&mut self) -> Option<&mut Lockstep>
+    /// Lends what it holds. What is taken out costs more, and must be put back.
+    pub(crate) fn held(&mut self) -> &mut Held
         ensures* writes_back { sem 𝓛 (lends_held self.entry result) }
-        ensures value { lockstep_of self.old ≡ option_map (λ node. contents node.now) result }
-        ensures live { IfSome result (λ node. self.old.live ≡ true) }
+        ensures value { result.now ≡ self.old.held }
     {
-        if self.is_live() {
-            Some(self.lend())
-        } else {
-            None
+        // SAFETY: a handle owns a box, and this points to its value (`owns_held`).
+        unsafe { &mut *(self.at as *mut Held) }
+    }
+
+    /// Lends the session that it holds, if it holds one.
+    pub(crate) fn session(&mut self) -> Option<&mut Session>
+        ensures* writes_back { sem 𝓛 (lends_session self.entry result) }
+        ensures value { session_in self.old.held ≡ option_map (λ value. value.now) result }
+    {
+        match self.held() {
+            Held::Session(value) => Some(value),
+            _ => None,
         }
     }
 
-    /// Takes the lockstep out, and leaves none.
-    pub(crate) fn take(&mut self, alloc: Global) -> Option<Box<Lockstep>>
-        ensures taken { lockstep_of self.old ≡ option_map (λ node. contents node.value) result }
-        ensures left { lockstep_of self.new ≡ None }
+    /// Lends the demo that it holds, if it holds one.
+    pub(crate) fn demo(&mut self) -> Option<&mut Demo>
+        ensures* writes_back { sem 𝓛 (lends_demo self.entry result) }
+        ensures value { demo_in self.old.held ≡ option_map (λ value. value.now) result }
     {
-        let live = self.is_live();
-        let handle = mem::replace(self, LockstepHandle::none());
-        if live {
-            Some(handle.into_loose(alloc).into_box())
-        } else {
-            None
+        match self.held() {
+            Held::Demo(value) => Some(value),
+            _ => None,
+        }
+    }
+
+    /// Lends the lockstep that it holds, if it holds one.
+    pub(crate) fn lockstep(&mut self) -> Option<&mut Lockstep>
+        ensures* writes_back { sem 𝓛 (lends_lockstep self.entry result) }
+        ensures value { lockstep_in self.old.held ≡ option_map (λ value. value.now) result }
+    {
+        match self.held() {
+            Held::Lockstep(value) => Some(value),
+            _ => None,
+        }
+    }
+
+    /// Lends the link that it holds, if it holds one.
+    pub(crate) fn link(&mut self) -> Option<&mut Link>
+        ensures* writes_back { sem 𝓛 (lends_link self.entry result) }
+        ensures value { link_in self.old.held ≡ option_map (λ value. value.now) result }
+    {
+        match self.held() {
+            Held::Link(value) => Some(value),
+            _ => None,
         }
     }
 }

@@ -1,41 +1,42 @@
-//! Zirmegat for callers in C: one player's node of a game in lockstep whose world is the caller's own, and
-//! what needs no node: datagrams as fields, and demos.
+//! Zirmegat for callers in C: sessions, demos and keys; and the parts of a session, which are links, locksteps
+//! and packets as fields.
 //!
-//! The header is bindings/c/zirmegat.h. Every number is tested here, and a handle that holds nothing
-//! answers as a node that does not play. A caller owes valid pointers, the use of a handle by one thread at a
+//! The headers are bindings/c/zirmegat.h and zirmegat_parts.h. Every number and every byte is tested here, and
+//! a handle of another kind is refused. A caller owes valid pointers, the use of a handle by one thread at a
 //! time, and the marks of its own world.
 #![tactic(auto)]
 
-mod answers;
-mod ask;
 mod bytes;
-mod calls;
-mod config;
-mod demo_answers;
-mod demo_handle;
+mod commands;
+mod configs;
+mod demo_facts;
 mod demos;
-mod give_up_answers;
+mod fault;
 mod handle;
+mod held;
+mod keep;
+mod key_text;
+mod lines;
 mod link_answers;
 mod link_calls;
-mod link_handle;
-mod link_readers;
-mod links;
-mod locksteps;
+mod lockstep_answers;
+mod lockstep_calls;
 mod loose;
+mod node_calls;
+mod node_player;
+mod node_state;
+mod nodes;
+mod over;
 mod packets;
-mod read_answers;
-mod reader;
-mod readers;
-mod session_answers;
+mod phases;
+mod rows;
 mod session_calls;
-mod session_codes;
-mod session_config;
 mod session_events;
-mod session_handle;
 mod session_player;
 mod session_run;
 mod session_state;
-mod session_terms;
 mod sessions;
+mod settings;
+mod slot;
+mod terms;
 mod version;

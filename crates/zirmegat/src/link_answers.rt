@@ -1,54 +1,26 @@
-//! What a link makes of bytes, as plain numbers.
+//! What the calls on a link return, as plain numbers.
 
 ghost use Rattle.std.specs.Prelude.{◌≡◌};
-ghost use Rattle.zirmegat.specs.{Codes.bundle_code, Links.line_told, Links.owed_told, Links.received_told, Links.unopened};
+ghost use Rattle.zirmegat.specs.Links.{bundle_code, give_up_at, give_up_told, owed_code, received_at, received_told, settled_code};
 
-use crate::answers::MadeAnswer;
-use dn_link::{BundleFault, Figures, Received};
-use dn_lockstep::Made;
+use crate::fault::Fault;
+use crate::lockstep_answers::made_code;
+use dn_link::{BundleFault, Received};
+use dn_lockstep::{Made, Settled};
+use dn_survivor::GivenUp;
 
-/// What a link makes of bytes that came in: 0 for the datagram of a peer, 1 for one of `player` who is none, 2
-/// for bytes that are no datagram to this player in this game, for the fault `reason`, 3 for one of `player`
+/// What a link makes of bytes that came in: 0 for bytes that are no datagram to this player in this game, for
+/// the fault `reason`, 1 for the datagram of a peer, 2 for one of `player` who is none, 3 for one of `player`
 /// who is given up, and 4 for one of `player` who tells that it has given up this player.
 #[repr(C)]
 #[derive(Clone, Copy, Debug, PartialEq, Eq)]
 pub struct ReceivedAnswer {
     /// 0 to 4, as above.
     pub code: u32,
-    /// The number of the fault, where `code` is 2, and else 0; 0 too where there is no link.
+    /// The number of the fault, where `code` is 0, and else 0; 0 too where there is no link.
     pub reason: u32,
-    /// Who sent it, where `code` is not 2.
-    pub player: u8,
-}
-
-impl ReceivedAnswer {
-    /// Bytes that are no datagram, for this fault.
-    pub(crate) fn unopened(reason: u32) -> ReceivedAnswer
-        ensures { result ≡ unopened reason }
-    {
-        ReceivedAnswer {
-            code: 2,
-            reason,
-            player: 0,
-        }
-    }
-
-    pub(crate) fn of(received: Received) -> ReceivedAnswer
-        ensures { result ≡ received_told received }
-    {
-        let (code, player) = match received {
-            Received::Heard(from) => (0, from),
-            Received::Stranger(from) => (1, from),
-            Received::Unopened(fault) => return ReceivedAnswer::unopened(bundle_code(fault)),
-            Received::GivenUp(from) => (3, from),
-            Received::Excluded(from) => (4, from),
-        };
-        ReceivedAnswer {
-            code,
-            reason: 0,
-            player,
-        }
-    }
+    /// Who sent it, where `code` is not 0.
+    pub player: u32,
 }
 
 /// Why bytes are no datagram of the game.
@@ -67,66 +39,98 @@ fn bundle_code(fault: BundleFault) -> u32
     }
 }
 
-/// What came of a build that was owed; 3 where none was.
-pub(crate) fn owed_answer(made: Option<Made>) -> MadeAnswer
-    ensures { result ≡ owed_told made }
-{
-    match made {
-        Some(made) => MadeAnswer::of(made),
-        None => MadeAnswer { code: 3, tic: 0 },
+impl ReceivedAnswer {
+    /// This of a player, or for a reason.
+    pub(crate) fn at(code: u32, reason: u32, player: u8) -> ReceivedAnswer
+        ensures { result ≡ received_at code reason player }
+    {
+        ReceivedAnswer {
+            code,
+            reason,
+            player: u32::from(player),
+        }
+    }
+
+    /// What a link made of bytes.
+    pub(crate) fn of(received: Received) -> ReceivedAnswer
+        ensures { result ≡ received_told received }
+    {
+        match received {
+            Received::Unopened(fault) => ReceivedAnswer::at(0, bundle_code(fault), 0),
+            Received::Heard(from) => ReceivedAnswer::at(1, 0, from),
+            Received::Stranger(from) => ReceivedAnswer::at(2, 0, from),
+            Received::GivenUp(from) => ReceivedAnswer::at(3, 0, from),
+            Received::Excluded(from) => ReceivedAnswer::at(4, 0, from),
+        }
     }
 }
 
-/// What is known of the line to a player, where `known` is 1; where there is no such other player all is 0.
-#[repr(C)]
-#[derive(Clone, Copy, Debug, PartialEq, Eq)]
-pub struct LineAnswer {
-    /// 1 for another player of the game, and else 0.
-    pub known: u32,
-    /// How many of its datagrams came.
-    pub came: u32,
-    /// How many of them did not, of those numbered before the newest.
-    pub lost: u32,
-    /// How many came twice.
-    pub repeated: u32,
-    /// How many came too late to tell.
-    pub too_old: u32,
-    /// How many of the last ones to it did not come there, or came after newer ones.
-    pub missing_there: u8,
-    /// By how many commands this player led it, at this player's last tick.
-    pub lead: i8,
-    /// By how many commands it led this player.
-    pub lead_there: i8,
+/// What came of a command that was owed, if one was.
+pub(crate) fn owed_code(made: Option<Made>) -> u32
+    ensures { result ≡ owed_code made }
+{
+    match made {
+        Some(made) => made_code(made),
+        None => Fault::NotNow.code(),
+    }
 }
 
-impl LineAnswer {
-    /// There is no such line.
-    pub(crate) const NONE: LineAnswer = LineAnswer {
-        known: 0,
-        came: 0,
-        lost: 0,
-        repeated: 0,
-        too_old: 0,
-        missing_there: 0,
-        lead: 0,
-        lead_there: 0,
-    };
+/// What a link returns that is told to give up a player: 0 where it does not play, 1 where the player is given
+/// up and reports are missing, 2 where the ends of all who are given up are known, 3 where the end of `player`
+/// cannot be taken, for the reason `reason`, 4 where it was given up before, and 5 where the number is no other
+/// player's.
+#[repr(C)]
+#[derive(Clone, Copy, Debug, PartialEq, Eq)]
+pub struct GiveUpAnswer {
+    /// 0 to 5, as above.
+    pub code: u32,
+    /// Why an end cannot be taken, where `code` is 3, and else 0.
+    pub reason: u32,
+    /// Whose end that is, where `code` is 3, and else 0.
+    pub player: u32,
+}
 
-    pub(crate) fn of(figures: Option<Figures>) -> LineAnswer
-        ensures { result ≡ line_told figures }
+/// Why an end cannot be taken.
+fn settled_code(settled: Settled) -> u32
+    ensures { result ≡ settled_code settled }
+{
+    match settled {
+        Settled::Taken(_) => 0,
+        Settled::NotAPlayer => 1,
+        Settled::NotPlaying => 2,
+        Settled::Gap => 3,
+        Settled::Behind => 4,
+        Settled::Overrun => 5,
+        Settled::Stopper => 6,
+        Settled::OtherEnd => 7,
+    }
+}
+
+impl GiveUpAnswer {
+    /// This, and what belongs to it.
+    fn at(code: u32, reason: u32, player: u8) -> GiveUpAnswer
+        ensures { result ≡ give_up_at code reason player }
     {
-        let Some(figures) = figures else {
-            return LineAnswer::NONE;
-        };
-        LineAnswer {
-            known: 1,
-            came: figures.came,
-            lost: figures.lost,
-            repeated: figures.repeated,
-            too_old: figures.too_old,
-            missing_there: figures.missing_there,
-            lead: figures.lead,
-            lead_there: figures.lead_there,
+        GiveUpAnswer {
+            code,
+            reason,
+            player: u32::from(player),
+        }
+    }
+
+    /// What a link did.
+    pub(crate) fn of(given_up: GivenUp) -> GiveUpAnswer
+        ensures { result ≡ give_up_told given_up }
+    {
+        match given_up {
+            GivenUp::NotPlaying => GiveUpAnswer::at(0, 0, 0),
+            GivenUp::Waiting => GiveUpAnswer::at(1, 0, 0),
+            GivenUp::Decided => GiveUpAnswer::at(2, 0, 0),
+            GivenUp::Untaken { player, reason } => {
+                GiveUpAnswer::at(3, settled_code(reason), player)
+            }
+            GivenUp::Already => GiveUpAnswer::at(4, 0, 0),
+            GivenUp::NotAPlayer => GiveUpAnswer::at(5, 0, 0),
         }
     }
 }

@@ -2,17 +2,17 @@
 
 ghost use Rattle.std.specs.Prelude.{◌≡◌, ◌<◌, ◌≤◌, length, map, slice_get, Result};
 ghost use Rattle.dn_packet.specs.{declared.packet.Packet.Packet as Sent, declared.packet.PacketFault.PacketFault as Fault, Read.IsReadAs, Text.text, Written.IsWritten};
-ghost use Rattle.zirmegat.specs.Fields.{command_told, command_in, fields_of, packet_in, IsDecodedAs};
+ghost use Rattle.zirmegat.specs.Fields.{sent_told, sent_in, fields_of, packet_in, IsDecodedAs};
 
 use crate::bytes;
 use arrayvec::ArrayVec;
 use dn_packet::{MAX_COMMANDS, Packet, PacketFault, decode, encode};
 use dn_tic::TicCmd;
 
-/// A tic command.
+/// A tic command as a packet has it.
 #[repr(C)]
 #[derive(Clone, Copy, Debug, PartialEq, Eq)]
-pub struct CommandFields {
+pub struct SentCommand {
     /// To the left, in 65536ths of a full turn.
     pub turn: i16,
     /// The consistency mark of the player's own world twelve tics before, 0 below tic 12.
@@ -27,9 +27,9 @@ pub struct CommandFields {
     pub buttons: u8,
 }
 
-impl CommandFields {
+impl SentCommand {
     /// No command.
-    pub(crate) const NONE: CommandFields = CommandFields {
+    const NONE: SentCommand = SentCommand {
         turn: 0,
         mark: 0,
         forward: 0,
@@ -39,18 +39,18 @@ impl CommandFields {
     };
 
     /// The command at this place, and all 0 where there is none.
-    fn at(commands: &[TicCmd], place: usize) -> CommandFields
-        ensures { result ≡ command_told (slice_get commands.now place) }
+    fn at(commands: &[TicCmd], place: usize) -> SentCommand
+        ensures { result ≡ sent_told (slice_get commands.now place) }
     {
-        CommandFields::of(commands.get(place).copied())
+        SentCommand::of(commands.get(place).copied())
     }
 
     /// A command, and all 0 for none.
-    pub(crate) fn of(command: Option<TicCmd>) -> CommandFields
-        ensures { result ≡ command_told command }
+    fn of(command: Option<TicCmd>) -> SentCommand
+        ensures { result ≡ sent_told command }
     {
         match command {
-            Some(command) => CommandFields {
+            Some(command) => SentCommand {
                 turn: command.turn,
                 mark: command.mark,
                 forward: command.forward,
@@ -58,12 +58,12 @@ impl CommandFields {
                 chat: command.chat,
                 buttons: command.buttons,
             },
-            None => CommandFields::NONE,
+            None => SentCommand::NONE,
         }
     }
 
     fn command(&self) -> TicCmd
-        ensures { result ≡ command_in self.now }
+        ensures { result ≡ sent_in self.now }
     {
         TicCmd {
             forward: self.forward,
@@ -91,13 +91,13 @@ pub struct PacketFields {
     /// How many commands there are, 0 to 12.
     pub count: u8,
     /// The commands, and all 0 behind the last.
-    pub commands: [CommandFields; MAX_COMMANDS],
+    pub commands: [SentCommand; MAX_COMMANDS],
 }
 
 /// The commands at these places.
 macro_rules! at_places {
     ($commands:ident; $($place:literal)*) => {
-        [$(CommandFields::at($commands, $place)),*]
+        [$(SentCommand::at($commands, $place)),*]
     };
 }
 
@@ -131,9 +131,9 @@ impl PacketFields {
     }
 }
 
-fn commands(fields: &[CommandFields]) -> ArrayVec<TicCmd, MAX_COMMANDS>
+fn commands(fields: &[SentCommand]) -> ArrayVec<TicCmd, MAX_COMMANDS>
     requires { length fields.now ≤ 12 }
-    ensures { result.items ≡ map command_in fields.now }
+    ensures { result.items ≡ map sent_in fields.now }
 {
     let mut found = ArrayVec::new();
     for command in fields {

@@ -1,31 +1,14 @@
 //! What has happened in a session, and when it wants to be polled.
 
-ghost use Rattle.std.specs.Prelude.{◌≡◌, ◌<◌, ◌^◌, ℕ, None};
-ghost use Rattle.dn_session.specs.{Joining.has_come, Session.meeting};
-ghost use Rattle.zirmegat.specs.Answers.{number_told};
-ghost use Rattle.zirmegat.specs.Calls.{Answers};
-ghost use Rattle.zirmegat.specs.SessionCodes.{over_at};
-ghost use Rattle.zirmegat.specs.Sessions.{session_of};
-ghost use Rattle.zirmegat.specs.SessionEvents.{acts_at, event_at, event_told, over_told, IsDue, Tells};
+ghost use Rattle.std.specs.Prelude.{◌≡◌, ◌<◌, ◌^◌, ℕ, Option, None};
+ghost use Rattle.dn_session.specs.{declared.event.Event.Event as Happened, Joining.has_come, Session.meeting};
+ghost use Rattle.zirmegat.specs.Calls.{Calls, session_of};
+ghost use Rattle.zirmegat.specs.Over.{not_over};
+ghost use Rattle.zirmegat.specs.SessionEvents.{acts_at, event_at, event_told, wait_of, IsDue, Tells};
 
-use crate::ask::ask;
-use crate::read_answers::Number;
-use crate::session_answers::OverAnswer;
-use crate::session_handle::SessionHandle;
-use dn_session::{Event, Over, Session};
-
-impl OverAnswer {
-    /// Why a session is over.
-    fn of(over: Over) -> OverAnswer
-        ensures { result ≡ over_told over }
-    {
-        match over {
-            Over::Refused(refusal) => OverAnswer::of_refusal(refusal),
-            Over::Hinted(hint) => OverAnswer::of_hint(hint),
-            Over::Ended(ending) => OverAnswer::of_ending(ending),
-        }
-    }
-}
+use crate::handle::Handle;
+use crate::over::OverAnswer;
+use dn_session::{Event, Session};
 
 /// What has happened in a session: 0 for nothing that was not told, 1 where `player` is the number of its own
 /// player's seat, 2 where that one has no seat any more, 3 where the game has begun, 4 where `player` has left,
@@ -44,12 +27,12 @@ pub struct EventAnswer {
 impl EventAnswer {
     /// What has happened to a player.
     fn at(kind: u32, player: u8) -> EventAnswer
-        ensures { result ≡ event_at kind player (over_at 0 0) }
+        ensures { result ≡ event_at kind player not_over }
     {
         EventAnswer {
             kind,
             player: u32::from(player),
-            over: OverAnswer::at(0, 0),
+            over: OverAnswer::NOT,
         }
     }
 
@@ -73,13 +56,21 @@ impl EventAnswer {
     }
 }
 
-/// Returns the first of what is so and was not told before. Call it until there is nothing. What came and went
-/// again between two calls is not told.
+/// Writes the first of what is so and was not told before, and returns its kind. Call it until there is
+/// nothing. What came and went again between two calls is not told.
 #[unsafe(no_mangle)]
-pub extern "C" fn zmg_session_event(session: &mut SessionHandle) -> EventAnswer
-    ensures { Answers event_told (event_told None) Tells (session_of session.old) (session_of session.new) result }
+pub extern "C" fn zmg_session_event(session: &mut Handle, out: &mut EventAnswer) -> u32
+    ensures told { Calls session_of session.old session.new
+        (λ n k. (event : Option Happened) × (out.new ≡ event_told event) × Tells n k event)
+        (out.new ≡ event_told None) }
+    ensures kind { result ≡ out.new.kind }
 {
-    ask!(session, held => EventAnswer::of(held.event()), EventAnswer::of(None))
+    let told = match session.session() {
+        Some(held) => EventAnswer::of(held.event()),
+        None => EventAnswer::of(None),
+    };
+    *out = told;
+    told.kind
 }
 
 /// When a session wants to be polled: at once where the game has begun and its player's part in it is not made.
@@ -92,11 +83,24 @@ fn due_of(session: &Session) -> Option<u32>
     session.due()
 }
 
-/// Returns when the session wants to be polled next, if it does not only wait for what comes. From then on a
-/// tick is due, or `zmg_session_poll` has something to do.
-#[unsafe(no_mangle)]
-pub extern "C" fn zmg_session_due(session: &mut SessionHandle) -> Number
-    ensures { Answers number_told (number_told None) IsDue (session_of session.old) (session_of session.new) result }
+/// How long it is until then; the largest number where it only waits for what comes.
+fn wait_of(due: Option<u32>, now: u32) -> u32
+    ensures { result ≡ wait_of now due }
 {
-    ask!(session, held => Number::of(due_of(held)), Number::of(None))
+    match due {
+        Some(due) => due.saturating_sub(now),
+        None => u32::MAX,
+    }
+}
+
+/// Returns after how many milliseconds the session wants to be polled, or a tick is due.
+#[unsafe(no_mangle)]
+pub extern "C" fn zmg_session_wait(session: &mut Handle, now: u32) -> u32
+    ensures { Calls session_of session.old session.new
+        (λ n k. (due : Option ℕ) × (result ≡ wait_of now due) × IsDue n k due) (result ≡ 4294967295) }
+{
+    match session.session() {
+        Some(held) => wait_of(due_of(held), now),
+        None => u32::MAX,
+    }
 }

@@ -1,17 +1,14 @@
 //! What is known of a player of a session.
 
-ghost use Rattle.std.specs.Prelude.{◌≡◌, nat_lt, slice_get};
+ghost use Rattle.std.specs.Prelude.{◌≡◌, ◌<◌, ◌≤◌, nat_lt, slice_get};
 ghost use Rattle.dn_session.specs.Playing.{playing};
 ghost use Rattle.dn_link.specs.Linking.{linked};
-ghost use Rattle.zirmegat.specs.Calls.{Reads};
-ghost use Rattle.zirmegat.specs.Sessions.{session_of};
-ghost use Rattle.zirmegat.specs.SessionStates.{holder_told, in_game, no_player, no_seat, not_seen, player_told, seat_here, seat_in, seat_there, seat_told, seen_in, seen_told, shown_told, standing_code};
+ghost use Rattle.zirmegat.specs.Calls.{Reads, session_of};
+ghost use Rattle.zirmegat.specs.SessionStates.{holder_told, in_game, no_seat, not_seen, player_told, seat_here, seat_in, seat_there, seat_told, seen_in, seen_told, shown_told, standing_code};
 
-use crate::ask::ask;
-use crate::link_answers::LineAnswer;
-use crate::link_readers::{end, got};
-use crate::read_answers::Number;
-use crate::session_handle::SessionHandle;
+use crate::fault::{DONE, Fault};
+use crate::handle::Handle;
+use crate::lines::{LineAnswer, end_of, got_of};
 use dn_link::Link;
 use dn_session::{Holder, Part, Seat, Seating, Seen, Session, Shown, Side, Standing, View};
 
@@ -42,9 +39,9 @@ pub struct PlayerInGame {
     /// For how many milliseconds nothing new of it came; of the own player it means nothing.
     pub silent: u32,
     /// How many of its commands are here.
-    pub got: Number,
-    /// The tic after its last command.
-    pub end: Number,
+    pub got: u32,
+    /// The tic after its last command, or the largest number where it is not known.
+    pub end: u32,
     /// The line to it.
     pub line: LineAnswer,
 }
@@ -200,8 +197,8 @@ impl PlayerInGame {
         standing: 0,
         awaited: 0,
         silent: 0,
-        got: Number { known: 0, value: 0 },
-        end: Number { known: 0, value: 0 },
+        got: 0,
+        end: u32::MAX,
         line: LineAnswer::NONE,
     };
 
@@ -209,13 +206,14 @@ impl PlayerInGame {
     fn of(link: &Link, player: u8, seen: Option<Seen>) -> PlayerInGame
         ensures { result ≡ seen_told link.now player seen }
     {
+        let lockstep = link.lockstep();
         match seen {
             Some(seen) => PlayerInGame {
                 standing: standing_code(seen.standing),
                 awaited: seen.awaited,
                 silent: seen.silent,
-                got: Number::of(got(link, player)),
-                end: Number::of(end(link, player)),
+                got: got_of(lockstep, player),
+                end: end_of(lockstep, player),
                 line: LineAnswer::of(link.figures(player)),
             },
             None => PlayerInGame::NONE,
@@ -247,17 +245,30 @@ impl PlayerAnswer {
     }
 }
 
-/// Writes what is known of a player at this time; all 0 where there is no such player, or no session.
+/// How many bytes `PlayerAnswer` has.
+const PLAYER_SIZE: usize = 96;
+
+/// Writes what is known of a player at this time, where the caller's struct has so many bytes.
 #[unsafe(no_mangle)]
 pub extern "C" fn zmg_session_player(
-    session: &mut SessionHandle,
+    session: &mut Handle,
     player: u8,
     now: u32,
     out: &mut PlayerAnswer,
-)
-    ensures { Reads (session_of session.old) (session_of session.new)
-        (λ m. out.new ≡ player_told player now m) (out.new ≡ no_player) }
+    size: usize,
+) -> u32
+    ensures tells { 96 ≤ size → Reads session_of session.old session.new
+        (λ m. (result ≡ 0) × (out.new ≡ player_told player now m)) ((result ≡ 1) × (out.new ≡ out.old)) }
+    ensures small { size < 96 → (result ≡ 2) × (session.new ≡ session.old) × (out.new ≡ out.old) }
 {
-    *out =
-        ask!(session, held => PlayerAnswer::of(held, player, now), PlayerAnswer { seat: SeatAnswer::none(0), game: PlayerInGame::NONE });
+    if size < PLAYER_SIZE {
+        return Fault::Size.code();
+    }
+    match session.session() {
+        Some(held) => {
+            *out = PlayerAnswer::of(held, player, now);
+            DONE
+        }
+        None => Fault::Handle.code(),
+    }
 }

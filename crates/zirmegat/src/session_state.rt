@@ -1,20 +1,19 @@
 //! What is known of a session, and its demo.
 
-ghost use Rattle.std.specs.Prelude.{◌≡◌, length, take, drop};
+ghost use Rattle.std.specs.Prelude.{◌≡◌, ◌<◌, ◌≤◌, length, take, drop};
 ghost use Rattle.dn_packet.specs.Written.{IsWritten};
 ghost use Rattle.dn_link.specs.Linking.{linked};
+ghost use Rattle.dn_lockstep.specs.Tables.{count_of};
 ghost use Rattle.dn_session.specs.Playing.{playing};
-ghost use Rattle.zirmegat.specs.Calls.{Reads};
-ghost use Rattle.zirmegat.specs.Sessions.{session_of};
-ghost use Rattle.zirmegat.specs.SessionStates.{demo_of, game_in, game_of, me_of, no_state, progress_code, progress_over, side_code, side_over, stage_code, stage_over, state_told, terms_of, where_of, why_of};
+ghost use Rattle.zirmegat.specs.Calls.{Reads, session_of};
+ghost use Rattle.zirmegat.specs.SessionStates.{demo_of, game_in, game_of, me_of, progress_code, progress_over, side_code, side_over, stage_code, stage_over, state_told, terms_of, where_of, why_of};
 
-use crate::ask::ask;
 use crate::bytes;
-use crate::link_readers::made;
-use crate::read_answers::{PhaseAnswer, flag};
-use crate::session_answers::OverAnswer;
-use crate::session_config::TermsFields;
-use crate::session_handle::SessionHandle;
+use crate::fault::{DONE, Fault};
+use crate::handle::Handle;
+use crate::over::OverAnswer;
+use crate::phases::PhaseAnswer;
+use crate::terms::TermsFields;
 use dn_link::Link;
 use dn_session::{Part, Progress, Session, Side, Stage, Terms};
 
@@ -36,7 +35,7 @@ pub struct GameAnswer {
     pub should: i16,
 }
 
-/// What is known of a session; all 0 where there is none.
+/// What is known of a session.
 #[repr(C)]
 #[derive(Clone, Copy, Debug, PartialEq, Eq)]
 pub struct SessionAnswer {
@@ -129,7 +128,7 @@ fn stage_over(stage: Stage) -> OverAnswer
     match stage {
         Stage::Refused(refusal) => OverAnswer::of_refusal(refusal),
         Stage::Hinted(hint) => OverAnswer::of_hint(hint),
-        _ => OverAnswer::at(0, 0),
+        _ => OverAnswer::NOT,
     }
 }
 
@@ -138,7 +137,7 @@ fn side_over(side: &Side) -> OverAnswer
     ensures { result ≡ side_over side.now }
 {
     match side {
-        Side::Host(_) => OverAnswer::at(0, 0),
+        Side::Host(_) => OverAnswer::NOT,
         Side::Joiner(joiner) => stage_over(joiner.stage()),
     }
 }
@@ -148,7 +147,7 @@ fn progress_over(progress: Progress) -> OverAnswer
     ensures { result ≡ progress_over progress }
 {
     match progress {
-        Progress::Playing => OverAnswer::at(0, 0),
+        Progress::Playing => OverAnswer::NOT,
         Progress::Leaving { ending, .. } => OverAnswer::of_ending(ending),
         Progress::Over(ending) => OverAnswer::of_ending(ending),
     }
@@ -164,6 +163,13 @@ fn why_of(side: &Side, part: &Option<Part>) -> OverAnswer
     }
 }
 
+/// How many commands its player built.
+fn made(link: &Link) -> u32
+    ensures { result ≡ count_of (linked link.now).node.rings (linked link.now).node.me }
+{
+    link.lockstep().made()
+}
+
 /// How far a link is.
 fn game_in(link: &Link) -> GameAnswer
     ensures { result ≡ game_in (linked link.now) }
@@ -173,7 +179,7 @@ fn game_in(link: &Link) -> GameAnswer
         made: made(link),
         ran: link.lockstep().ran(),
         unacknowledged: link.unacknowledged(),
-        may_leave: flag(link.may_leave()),
+        may_leave: u32::from(link.may_leave()),
         was: phase.was,
         should: phase.should,
     }
@@ -199,25 +205,6 @@ fn game_of(part: &Option<Part>) -> GameAnswer
 impl SessionAnswer {
     ghost use Rattle.dn_session.specs.Session.{meeting};
 
-    /// What is known where there is no session.
-    const NONE: SessionAnswer = SessionAnswer {
-        stage: 0,
-        why: OverAnswer {
-            reason: 0,
-            number: 0,
-        },
-        game: GameAnswer {
-            made: 0,
-            ran: 0,
-            unacknowledged: 0,
-            may_leave: 0,
-            was: 0,
-            should: 0,
-        },
-        me: 0,
-        terms: TermsFields::NONE,
-    };
-
     /// What is known of a session.
     fn of(session: &Session) -> SessionAnswer
         ensures { result ≡ state_told (meeting session.now) }
@@ -233,13 +220,30 @@ impl SessionAnswer {
     }
 }
 
-/// Writes what is known of the session; all 0 where the handle holds none.
+/// How many bytes `SessionAnswer` has.
+const STATE_SIZE: usize = 328;
+
+/// Writes what is known of the session, where the caller's struct has so many bytes.
 #[unsafe(no_mangle)]
-pub extern "C" fn zmg_session_state(session: &mut SessionHandle, out: &mut SessionAnswer)
-    ensures { Reads (session_of session.old) (session_of session.new)
-        (λ m. out.new ≡ state_told m) (out.new ≡ no_state) }
+pub extern "C" fn zmg_session_state(
+    session: &mut Handle,
+    out: &mut SessionAnswer,
+    size: usize,
+) -> u32
+    ensures tells { 328 ≤ size → Reads session_of session.old session.new
+        (λ m. (result ≡ 0) × (out.new ≡ state_told m)) ((result ≡ 1) × (out.new ≡ out.old)) }
+    ensures small { size < 328 → (result ≡ 2) × (session.new ≡ session.old) × (out.new ≡ out.old) }
 {
-    *out = ask!(session, held => SessionAnswer::of(held), SessionAnswer::NONE);
+    if size < STATE_SIZE {
+        return Fault::Size.code();
+    }
+    match session.session() {
+        Some(held) => {
+            *out = SessionAnswer::of(held);
+            DONE
+        }
+        None => Fault::Handle.code(),
+    }
 }
 
 /// The demo of a part in the game.
@@ -254,14 +258,13 @@ fn demo_of(part: &Option<Part>) -> &[u8]
 
 /// Copies its demo so far from this byte on, as many bytes as there is room for, and returns how many.
 #[unsafe(no_mangle)]
-pub extern "C" fn zmg_session_demo(
-    session: &mut SessionHandle,
-    from: usize,
-    out: &mut [u8],
-) -> usize
-    ensures { Reads (session_of session.old) (session_of session.new)
+pub extern "C" fn zmg_session_demo(session: &mut Handle, from: usize, out: &mut [u8]) -> usize
+    ensures { Reads session_of session.old session.new
         (λ m. IsWritten (take (length out.old) (drop from (demo_of m.part))) out.old out.new result)
         ((result ≡ 0) × (out.new ≡ out.old)) }
 {
-    ask!(session, held => bytes::write_from(demo_of(held.part()), from, out), 0)
+    match session.session() {
+        Some(held) => bytes::write_from(demo_of(held.part()), from, out),
+        None => 0,
+    }
 }

@@ -1,26 +1,29 @@
-//! Making sessions, and giving them up.
+//! Making sessions.
 
-ghost use Rattle.std.specs.Prelude.{◌≡◌, None};
-ghost use Rattle.zirmegat.specs.SessionConfigs.{host_in, join_in, IsHost, IsHostWith, IsJoin, IsJoinWith, IsKept, IsSetAs, OpensHost, OpensJoin};
+ghost use Rattle.std.specs.Prelude.{◌≡◌, ◌≢◌, None};
 ghost use Rattle.dn_session.specs.Session.{IsHostSession, IsJoinSession};
-ghost use Rattle.zirmegat.specs.Sessions.{session_of};
+ghost use Rattle.zirmegat.specs.Calls.{held_at, IsKept};
+ghost use Rattle.zirmegat.specs.Configs.{host_in, join_in, IsHost, IsHostWith, IsJoin, IsJoinWith, IsSetAs, OpensHost, OpensJoin};
+ghost use Rattle.zirmegat.specs.declared.held.Held.TheVariants as kind;
 
-use crate::session_codes::{SessionFault, session_code};
-use crate::session_config::{HostFields, JoinFields, is_zero};
-use crate::session_handle::SessionHandle;
+use crate::configs::{HOST_SIZE, HostFields, JOIN_SIZE, JoinFields, is_zero};
+use crate::fault::Fault;
+use crate::held::Held;
+use crate::keep::{keep, refuse};
+use crate::slot::Slot;
 use dn_session::{LobbyFault, Session};
 use dn_setup::{Settings, SettingsFault};
 use std::alloc::Global;
 
 /// Whether the key, where one is needed, or the random bytes were never set.
-fn unset(keyless: u8, key: &[u8; 32], random: &[u8; 32]) -> Option<SessionFault>
+fn unset(keyless: u8, key: &[u8; 32], random: &[u8; 32]) -> Option<Fault>
     ensures { IsSetAs keyless key.now random.now result }
 {
     if keyless == 0 && is_zero(key) {
-        return Some(SessionFault::Key);
+        return Some(Fault::Key);
     }
     if is_zero(random) {
-        return Some(SessionFault::Random);
+        return Some(Fault::Random);
     }
     None
 }
@@ -36,20 +39,20 @@ fn host_of(config: &HostFields, settings: Settings) -> Result<Session, LobbyFaul
 fn host_with(
     config: &HostFields,
     settings: Result<Settings, SettingsFault>,
-) -> Result<Session, SessionFault>
+) -> Result<Session, Fault>
     ensures { IsHostWith config.now settings result }
 {
     match settings {
         Ok(settings) => match host_of(config, settings) {
             Ok(session) => Ok(session),
-            Err(fault) => Err(SessionFault::Lobby(fault)),
+            Err(fault) => Err(Fault::Lobby(fault)),
         },
-        Err(fault) => Err(SessionFault::Settings(fault)),
+        Err(fault) => Err(Fault::Settings(fault)),
     }
 }
 
 /// The session of a host.
-fn host(config: &HostFields) -> Result<Session, SessionFault>
+fn host(config: &HostFields) -> Result<Session, Fault>
     ensures { IsHost config.now result }
 {
     if let Some(fault) = unset(config.keyless, &config.key, &config.random) {
@@ -66,17 +69,17 @@ fn join_of(config: &JoinFields, now: u32) -> Result<Session, LobbyFault>
 }
 
 /// The same, where key and random bytes are set.
-fn join_with(config: &JoinFields, now: u32) -> Result<Session, SessionFault>
+fn join_with(config: &JoinFields, now: u32) -> Result<Session, Fault>
     ensures { IsJoinWith config.now now result }
 {
     match join_of(config, now) {
         Ok(session) => Ok(session),
-        Err(fault) => Err(SessionFault::Lobby(fault)),
+        Err(fault) => Err(Fault::Lobby(fault)),
     }
 }
 
 /// The session of one who joins.
-fn join(config: &JoinFields, now: u32) -> Result<Session, SessionFault>
+fn join(config: &JoinFields, now: u32) -> Result<Session, Fault>
     ensures { IsJoin config.now now result }
 {
     if let Some(fault) = unset(config.keyless, &config.key, &config.random) {
@@ -85,55 +88,41 @@ fn join(config: &JoinFields, now: u32) -> Result<Session, SessionFault>
     join_with(config, now)
 }
 
-/// Keeps a session in the handle.
-fn keep(alloc: Global, handle: &mut SessionHandle, made: Result<Session, SessionFault>) -> u32
-    ensures { IsKept made result (session_of handle.new) }
+/// Hands a session to C, or writes null.
+fn keep_session(alloc: Global, out: &mut Slot, made: Result<Session, Fault>) -> u32
+    ensures { IsKept kind.Session made result (held_at out.new) }
 {
-    drop(handle.take(alloc));
-    let session = match made {
-        Ok(session) => session,
-        Err(fault) => return session_code(fault),
-    };
-    match Box::new(alloc, session) {
-        Ok(session) => {
-            *handle = SessionHandle::of(session);
-            0
-        }
-        Err(_) => session_code(SessionFault::Memory),
+    match made {
+        Ok(session) => keep(alloc, out, Held::Session(session)),
+        Err(fault) => refuse(out, fault),
     }
 }
 
-/// Makes the session of a host in the handle. Returns 0, or the first fault.
+/// Makes the session of a host. Returns 0, or the first fault.
 #[unsafe(no_mangle)]
-pub extern "C" fn zmg_session_host(
-    alloc: Global,
-    session: &mut SessionHandle,
-    config: &HostFields,
-) -> u32
-    ensures { OpensHost config.now result (session_of session.new) }
+pub extern "C" fn zmg_session_host(alloc: Global, out: &mut Slot, config: &HostFields) -> u32
+    ensures opens { config.now.size ≡ 384 → OpensHost config.now result (held_at out.new) }
+    ensures size { config.now.size ≢ 384 → (result ≡ 2) × (held_at out.new ≡ None) }
 {
-    keep(alloc, session, host(config))
+    if config.size != HOST_SIZE {
+        return refuse(out, Fault::Size);
+    }
+    keep_session(alloc, out, host(config))
 }
 
-/// Makes the session of one who joins in the handle, who calls from this time on. Returns 0, or the first
-/// fault.
+/// Makes the session of one who joins and calls from this time on. Returns 0, or the first fault.
 #[unsafe(no_mangle)]
 pub extern "C" fn zmg_session_join(
     alloc: Global,
-    session: &mut SessionHandle,
+    out: &mut Slot,
     config: &JoinFields,
     now: u32,
 ) -> u32
-    ensures { OpensJoin config.now now result (session_of session.new) }
+    ensures opens { config.now.size ≡ 144 → OpensJoin config.now now result (held_at out.new) }
+    ensures size { config.now.size ≢ 144 → (result ≡ 2) × (held_at out.new ≡ None) }
 {
-    keep(alloc, session, join(config, now))
-}
-
-/// Gives up the session that the handle holds, if it holds one, with its memory.
-#[unsafe(no_mangle)]
-pub extern "C" fn zmg_session_free(alloc: Global, session: &mut SessionHandle)
-    ensures { session_of session.new ≡ None }
-{
-    let held = session.take(alloc);
-    drop(held);
+    if config.size != JOIN_SIZE {
+        return refuse(out, Fault::Size);
+    }
+    keep_session(alloc, out, join(config, now))
 }

@@ -1,18 +1,5 @@
-/* zmg_trial.c: bots and records for check and measure, in the engine's own netgames too. Compiled only after
- * `apply --trial`.
- *
- *   -zmg-bot SEED        keys by a generator
- *   -zmg-tics N          leave at tic N
- *   -zmg-seconds N       leave after so many seconds
- *   -zmg-mouse           the bot moves a mouse too, and a stick
- *   -zmg-chat            and presses keys of chat and pause
- *   -zmg-log FILE        a line for each tic: the world after it (also where a demo plays)
- *   -zmg-time FILE       a line for each tic: when it was run, and milliseconds since its command was built
- *   -zmg-drift N         this machine's clock is N in a thousand too fast
- *   -zmg-load N          it takes N milliseconds to load the first level
- *   -zmg-spoil TIC       a world that is wrong from this tic on
- *   -zmg-moves           at the end: in how many tics the moves differed from what the input asked
- */
+/* zmg_trial.c: bots for check, hard and measure, in the engine's own netgames too. Compiled only after
+ * `apply --trial`. zmg_trial.inc has the options and the records. */
 #include <stdio.h>
 #include <stdlib.h>
 #include <string.h>
@@ -27,54 +14,13 @@
 #include "i_system.h"
 #include "m_argv.h"
 #include "m_controls.h"
+#include "zmg_netgame.h"
 #include "zmg_trial.h"
-#include "zmg_world.h"
 
-extern double zmg_clock;     /* d_loop.c */
+#define ZMG_QUIT I_Quit()
+#include "zmg_trial.inc"
 
-enum { RING = 64 };
-
-static boolean opened;
-static uint32_t bot, own_tics, differing, letters_sent, letters_heard, pauses;
-static int last_tic, seconds, load, spoil;
-static FILE *log_file, *time_file;
-static ticcmd_t wanted[RING];
-static double built_at[RING], first_run;
-
-static double now_ms(void)
-{
-    struct timespec t;
-    clock_gettime(CLOCK_MONOTONIC, &t);
-    return t.tv_sec * 1e3 + t.tv_nsec / 1e6;
-}
-
-static const char *word(const char *name)
-{
-    int i = M_CheckParmWithArgs(name, 1);
-    return i > 0 ? myargv[i + 1] : NULL;
-}
-
-static int number(const char *name) { return word(name) ? atoi(word(name)) : 0; }
-
-static void open_all(void)
-{
-    if (opened) return;
-    opened = true;
-    bot = word("-zmg-bot") ? (uint32_t) number("-zmg-bot") * 2654435761u + 12345u : 0;
-    last_tic = number("-zmg-tics");
-    seconds = number("-zmg-seconds");
-    load = number("-zmg-load");
-    spoil = number("-zmg-spoil");
-    zmg_clock = 1 + number("-zmg-drift") / 1000.0;
-    if (word("-zmg-log")) log_file = fopen(word("-zmg-log"), "w");
-    if (word("-zmg-time")) time_file = fopen(word("-zmg-time"), "w");
-}
-
-static uint32_t draw(uint32_t n)
-{
-    bot = bot * 1664525u + 1013904223u;
-    return (bot >> 8) % n;
-}
+extern double zmg_clock;   /* d_loop.c: the same for the engine's own netgames */
 
 static void press(int key, boolean down)
 {
@@ -85,9 +31,9 @@ static void press(int key, boolean down)
 static void bot_keys(void)
 {
     static boolean down[32];
-    int keys[] = { key_up, key_up, key_up, key_left, key_right, key_fire, key_fire, key_use, key_speed, key_down,
-                   key_strafeleft, key_straferight, key_strafe, key_weapon1, key_weapon2, key_weapon3, key_weapon4,
-                   key_weapon5, key_weapon6, key_weapon7, key_nextweapon };
+    int keys[] = { key_up, key_up, key_up, key_left, key_right, key_fire, key_fire, key_use, key_speed,
+                   key_down, key_strafeleft, key_straferight, key_strafe, key_weapon1, key_weapon2, key_weapon3,
+                   key_weapon4, key_weapon5, key_weapon6, key_weapon7, key_nextweapon };
     uint32_t k = draw(sizeof keys / sizeof *keys);
     if (draw(3)) return;
     down[k] = !down[k];
@@ -119,11 +65,15 @@ static void bot_chat(void)
     }
     else if (gametic % 100 > 50) at = 0;
     if (gametic > 150 && draw(200) == 0) { press(key_pause, true); press(key_pause, false); }
+    if (draw(50) == 0) { press('f', true); press('f', false); }
+    if (draw(100) == 0) { press(key_spy, true); press(key_spy, false); }
 }
 
 void ZMG_ProcessEvents(void)
 {
     open_all();
+    drift();
+    zmg_clock = zmg_clock_rate;
     if (bot && gametic > 0 && !demoplayback)
     {
         bot_keys();
@@ -136,61 +86,5 @@ void ZMG_ProcessEvents(void)
 void ZMG_BuildTiccmd(ticcmd_t *cmd, int maketic)
 {
     G_BuildTiccmd(cmd, maketic);
-    built_at[maketic % RING] = now_ms();
-    wanted[maketic % RING] = *cmd;
-    letters_sent += cmd->chatchar != 0;
-}
-
-static void compare(void)
-{
-    const ticcmd_t *w = &wanted[gametic % RING], *m = &netcmds[consoleplayer];
-    own_tics++;
-    differing += w->forwardmove != m->forwardmove || w->sidemove != m->sidemove || w->angleturn != m->angleturn
-              || w->buttons != m->buttons || w->chatchar != m->chatchar;
-    for (int p = 0; p < MAXPLAYERS; p++)
-    {
-        letters_heard += p != consoleplayer && playeringame[p] && netcmds[p].chatchar != 0;
-        pauses += playeringame[p] && netcmds[p].buttons == (BT_SPECIAL | BTS_PAUSE);
-    }
-}
-
-static void log_tic(void)
-{
-    if (!log_file) return;
-    fprintf(log_file, "%d %08x g %d m %d l %d p %d", gametic, ZMG_WorldDigest(), gamestate, gamemap, leveltime, paused);
-    for (int p = 0; p < MAXPLAYERS; p++)
-        if (playeringame[p] && players[p].mo)
-            fprintf(log_file, " | %d %d %d %d %u %d", p, players[p].mo->x, players[p].mo->y, players[p].mo->z,
-                    players[p].mo->angle, players[p].mo->health);
-    fprintf(log_file, "\n");
-    if (gametic % 35 == 0) fflush(log_file);
-}
-
-static void leave(void)
-{
-    if (M_CheckParm("-zmg-moves") > 0)
-        printf("trial: %u tics, %u differ from the input; letters sent %u, heard %u; pauses %u\n", own_tics, differing,
-               letters_sent, letters_heard, pauses);
-    fflush(stdout);
-    if (log_file) fclose(log_file);
-    if (time_file) fclose(time_file);
-    log_file = time_file = NULL;
-    gametic++;
-    I_Quit();
-}
-
-void ZMG_Ticker(void)
-{
-    double now = now_ms();
-    open_all();
-    if (first_run == 0) first_run = now;
-    if (gametic == 0) usleep((useconds_t) load * 1000);
-    if (time_file) fprintf(time_file, "%d %.2f %.2f\n", gametic, now, now - built_at[gametic % RING]);
-    if (time_file && gametic % 35 == 0) fflush(time_file);
-    if (!demoplayback) compare();
-    G_Ticker();
-    if (spoil && gametic == spoil && players[consoleplayer].mo) players[consoleplayer].mo->momx ^= 1;
-    log_tic();
-    if (demoplayback) return;
-    if ((last_tic && gametic + 1 >= last_tic) || (seconds && now - first_run > seconds * 1e3)) leave();
+    was_built(cmd, maketic);
 }

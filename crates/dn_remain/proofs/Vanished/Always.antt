@@ -1,17 +1,14 @@
 -- The opening has what every step keeps, and so has every run. What every step keeps says what is promised.
-use Rattle.std.proofs.Common.{◌≡◌, ℕ, ◌+◌, ◌<◌, ◌≤◌, refl, arith, inl, List, [], ◌∷◌, ◌++◌, sym, subst}
-use Rattle.std.specs.Prelude.{◌⊎◌, Bool, true, false, Some, None}
-use Rattle.std.proofs.lemmas.Bool.{both_ways, cases_lt, lt-leb, leb-false}
-use Rattle.std.proofs.lemmas.Option.{same_Some, none-some}
-use Rattle.std.proofs.lemmas.List.{get_or_push, get_or_append_left, length_push}
+use Rattle.std.proofs.Common.{◌≡◌, ℕ, ◌+◌, ◌<◌, ◌≤◌, refl, arith, inl, List, [], ◌∷◌, ◌++◌, sym, subst, ◌⊎◌, Bool, true}
+use Rattle.std.proofs.{Common.{false, Some, None}, lemmas.Bool.{both_ways, cases_lt, lt-leb, leb-false}}
+use Rattle.std.proofs.lemmas.{Option.{same_Some, none-some}, List.{get_or_push, get_or_append_left, length_push}}
 use Rattle.dn_machine.proofs.Put.{put_at, put_off}
 use Rattle.dn_machine.specs.{Running.is_over, Node.put}
-use Rattle.dn_remain.specs.{Vanished.Node.Node, Vanished.Node.ran, Vanished.Node.fresh, Vanished.Node.Was, Vanished.Node.decided, Vanished.Steps.Act, Vanished.Steps.Make, Vanished.Steps.Take}
-use Rattle.dn_remain.specs.{Vanished.Steps.Learn, Vanished.Steps.Run, Vanished.Steps.GiveUp, Vanished.Steps.Leave, Vanished.Steps.Decide, Vanished.Steps.Acts, Vanished.Steps.Step, Vanished.Steps.IsRun}
-use Rattle.dn_remain.specs.{Vanished.Promise.Agree, Vanished.Promise.Lasts, Vanished.Promise.lacks_at}
-use Rattle.dn_remain.proofs.{Vanished.Invariant.IsGrown, Vanished.Invariant.IsSound, Vanished.Invariant.IsKept, Vanished.Stepping.IsTold, Vanished.Stepping.told_still, Vanished.Stepping.told_of, Vanished.Stepping.IsMild}
-use Rattle.dn_remain.proofs.{Vanished.Invariant.IsLater, Vanished.Views.later_self, Vanished.Stepping.IsGood, Vanished.Stepping.kept_after, Vanished.Stepping.mild_good, Vanished.Deciding.decided_good}
-use Rattle.dn_remain.proofs.{Vanished.Stepping.cases_Option}
+use Rattle.dn_remain.specs.Vanished.{Node.{Node, ran, fresh, Was, decided}, Promise.{Agree, Lasts, lacks_at}}
+use Rattle.dn_remain.specs.Vanished.Steps.{Act, Make, Take, Learn, Run, GiveUp, Leave, Decide, Acts, Step, IsRun}
+use Rattle.dn_remain.proofs.Vanished.{Invariant.{IsGrown, IsSound, IsKept, IsLater}, Views.later_self}
+use Rattle.dn_remain.proofs.Vanished.Stepping.{IsTold, told_still, told_of, IsMild, IsGood, kept_after, mild_good}
+use Rattle.dn_remain.proofs.Vanished.{Stepping.cases_Option, Deciding.decided_good}
 
 module _ (players : ℕ) (history : List (ℕ → Node)) (kept : IsKept players history) where
   ends_same : (x z p a b : ℕ) (u v : Node) → x < players → z < players → (x ≡ z → ⊥) → Was history x u
@@ -140,8 +137,7 @@ fresh_sound players x = grind (arith, none-some)
 only_fresh : (x : ℕ) (u : Node) → Was ((λ node. fresh) ∷ []) x u → u ≡ fresh
 only_fresh x u w = grind arith
 
-opening_later : (players x : ℕ) (u v : Node) → u ≡ fresh → v ≡ fresh
-    → IsLater players ((λ node. fresh) ∷ []) x u v
+opening_later : (players x : ℕ) (u v : Node) → u ≡ fresh → v ≡ fresh → IsLater players ((λ node. fresh) ∷ []) x u v
 opening_later players x u v d e = grind (arith, IsLater, later_self)
 
 opens : (players : ℕ) → IsKept players ((λ node. fresh) ∷ [])

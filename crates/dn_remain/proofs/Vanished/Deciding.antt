@@ -1,14 +1,13 @@
 -- A decision keeps all.
-use Rattle.std.proofs.Common.{◌≡◌, ℕ, ◌<◌, ◌≤◌, eqb, refl, sym, ◌∙◌, arith, inl, inr, List, ◌∷◌}
-use Rattle.std.specs.Prelude.{◌⊎◌, Bool, true, false, Some}
+use Rattle.std.proofs.Common.{◌≡◌, ℕ, ◌<◌, ◌≤◌, eqb, refl, sym, ◌∙◌, arith, inl, inr, List, ◌∷◌, ◌⊎◌, Bool, true, false, Some}
 use Rattle.std.proofs.lemmas.{Bool.both_ways, Bool.cases_eq, Bool.cases_Bool, Bool.eq-eqb, Bool.ne_eqb, Bool.cond-true, Bool.cond-false, Option.same_Some}
 use Rattle.dn_machine.proofs.Put.{put_at, put_off}
 use Rattle.dn_machine.specs.Node.{put}
 use Rattle.dn_remain.specs.Vanished.Node.{Node, Was, Same, Within, Stands, HasHeard, share, decided_end, decided}
-use Rattle.dn_remain.proofs.{Vanished.Put.highest_bounds, Vanished.Put.highest_reached, Vanished.Stepping.IsGood, Vanished.Stepping.grows, Vanished.Stepping.stays}
+use Rattle.dn_remain.proofs.Vanished.Put.{highest_bounds, highest_reached}
+use Rattle.dn_remain.proofs.Vanished.Stepping.{IsGood, grows, stays, IsTold, told_still, told_of, sound_by}
 use Rattle.dn_remain.proofs.Vanished.Invariant.{IsBase, IsDecision, IsLater, HasSource, IsSound, IsMet, IsKept}
 use Rattle.dn_remain.proofs.Vanished.Views.{outside, stands_outside, both_within, base_same, base_kept, source_kept}
-use Rattle.dn_remain.proofs.Vanished.Stepping.{IsTold, told_still, told_of, sound_by}
 
 module _ (players : ℕ) (nodes : ℕ → Node) (older : List (ℕ → Node)) (q : ℕ) (l : q < players)
     (here : (nodes q).left ≡ false) (kept : IsKept players (nodes ∷ older)) (heard : ℕ → Node)
@@ -53,27 +52,17 @@ module _ (players : ℕ) (nodes : ℕ → Node) (older : List (ℕ → Node)) (q
   share_gone p r n o = cond-false (eqb r q) _ _ (ne_eqb r q n) ∙ cond-true ((nodes q).gone r) 0 ((heard r).got p) o
 
   above_own : (p : ℕ) → (nodes q).got p ≤ end p
-  above_own p =
-      let a = highest_bounds players (share q (nodes q) heard p) q l in
-      let b = share_own p q refl in
-      omega arith
+  above_own p = omega (arith, highest_bounds players (share q (nodes q) heard p) q l, share_own p q refl)
 
   above : (p r : ℕ) → r < players → (r ≡ q → ⊥) → (nodes q).gone r ≡ false → (heard r).got p ≤ end p
-  above p r m n o =
-      let a = highest_bounds players (share q (nodes q) heard p) r m in
-      let b = share_other p r n o in
-      omega arith
+  above p r m n o = omega (arith, highest_bounds players (share q (nodes q) heard p) r m, share_other p r n o)
 
   -- the end is the count of the node itself, or of one that it heard
   pub reached : (p : ℕ) → (end p ≡ (nodes q).got p)
-      ⊎ ((r : ℕ) × (r < players) × (r ≡ q → ⊥) × ((nodes q).gone r ≡ false)
-      × (end p ≡ (heard r).got p))
+      ⊎ ((r : ℕ) × (r < players) × (r ≡ q → ⊥) × ((nodes q).gone r ≡ false) × (end p ≡ (heard r).got p))
   reached p =
       let h = highest_reached players (share q (nodes q) heard p) (omega arith) in
-      elim (cases_eq h.0 q) [
-        | inl e ↦ inl (h.2 ∙ share_own p h.0 e)
-        | inr n ↦ grind (arith, share_gone, above_own, share_other)
-      ]
+      grind (arith, share_own, share_gone, above_own, share_other)
 
   -- nobody who was heard had given up `q`
   pub not_q : (r : ℕ) → r < players → (r ≡ q → ⊥) → (nodes q).gone r ≡ false → (heard r).gone q ≡ false
@@ -205,10 +194,7 @@ module _ (players : ℕ) (nodes : ℕ → Node) (older : List (ℕ → Node)) (q
         | inl e ↦ grind (arith, sound, full)
         | inr c ↦
             let u : d.gone r ≡ false = outside d.gone (nodes q).gone r (inside z d h o) k in
-            elim (cases_Bool ((heard r).gone z)) [
-              | inr f ↦ kept.met z r d (heard r) m i (λ e. c (sym e)) h.was ev.0 u f p (d.got p) (h.known p t)
-              | inl f ↦ grind (arith, stood, outside, inside, not_q)
-            ]
+            grind (arith, stood, outside, inside, not_q)
       ]
 
   met_right : (z : ℕ) (u : Node) → z < players → (z ≡ q → ⊥) → Was past z u → IsMet z q u next

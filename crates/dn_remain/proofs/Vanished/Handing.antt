@@ -1,15 +1,14 @@
 -- Lists that are handed on piece by piece are fronts of their makers' lists. So of any two demos one is a
 -- prefix of the other.
-use Rattle.std.proofs.Common.{◌≡◌, ℕ, ◌<◌, zero, suc, refl, sym, ◌∙◌, ap, subst, arith, inl, inr, List, [], ◌∷◌, ◌++◌, append_assoc, length, take, drop, ◌≤◌, ltb, get_or}
-use Rattle.std.specs.Prelude.{◌⊎◌, false, slice_get, true, not, Option, None}
+use Rattle.std.proofs.Common.{◌≡◌, ℕ, ◌<◌, zero, suc, refl, sym, ◌∙◌, ap, subst, arith, inl, inr, List, [], ◌∷◌, ◌++◌, append_assoc, length, take, drop, ◌≤◌, ltb, get_or, ◌⊎◌, false, slice_get, true, not, Option, None}
 use Rattle.std.proofs.lemmas.{Bool.cases_eq, List.take-append-drop, Bool.cases_lt, Bool.not-true, Bool.lt-ltb, Bool.le-ltb, Bool.cond-true, Bool.cond-false, List.Sums.prefix_len-le-length}
 use Rattle.std.proofs.lemmas.{List.Sums.prefix_len_passes, List.Folds.length-prefix_len}
 use Rattle.std.specs.List.{take_while, prefix_len}
 use Rattle.dn_machine.proofs.Put.{put_at, put_off, same_functions}
 use Rattle.dn_machine.specs.{Promise.IsPrefixOf, Node.put}
-use Rattle.dn_remain.specs.{Vanished.Node.Was, Vanished.Promise.lacks_at, Vanished.Steps.IsRun}
-use Rattle.dn_remain.specs.Vanished.Commands.{Holder, seen, past_seen, holders, Had, AreHanded, is_whole, commands_at, commands_to, demo}
-use Rattle.dn_remain.proofs.{Vanished.Always.always, Vanished.Always.agree, Vanished.Tests.every_at}
+use Rattle.dn_remain.specs.Vanished.Commands.{Holder, seen, past_seen, holders, Had, AreHanded, is_whole, commands_at}
+use Rattle.dn_remain.specs.Vanished.{Commands.{commands_to, demo}, Promise.lacks_at, Steps.IsRun, Node.Was}
+use Rattle.dn_remain.proofs.Vanished.{Always.{always, agree}, Tests.every_at}
 
 append_none : {C : Type 0} (xs : List C) → xs ++ [] ≡ xs
 append_none [] = refl
@@ -19,10 +18,7 @@ front_self : {C : Type 0} (xs ys : List C) → xs ≡ ys → IsPrefixOf xs ys
 front_self xs ys e = ([], append_none xs ∙ e)
 
 front_joined : {C : Type 0} (xs ys zs : List C) → IsPrefixOf xs ys → IsPrefixOf ys zs → IsPrefixOf xs zs
-front_joined {C} xs ys zs h k = (
-  h.0 ++ k.0,
-  sym (append_assoc xs h.0 k.0) ∙ (ap (λ (ws : List C). ws ++ k.0) h.1 ∙ k.1),
-)
+front_joined {C} xs ys zs h k = grind (arith, append_assoc)
 
 -- what stands in a front stands in the whole
 front_get : {C : Type 0} (xs rest : List C) (i : ℕ) → i < length xs → slice_get (xs ++ rest) i ≡ slice_get xs i
@@ -75,10 +71,7 @@ module _ {C : Type 0} where
   pub handed : (history : List (ℕ → Holder C)) → AreHanded history → (x p : ℕ) (u : Holder C) → Had history x u
       → IsPrefixOf (u.held p) ((holders history p).held p)
   handed [] h x p u w = absurd w
-  handed (nodes ∷ []) h x p u w = elim w [
-    | inr n ↦ absurd n
-    | inl e ↦ grind arith
-  ]
+  handed (nodes ∷ []) h x p u w = grind arith
   handed (next ∷ (nodes ∷ older)) h x p u w =
       let step = h.0 in
       let n = step.next_is in

@@ -1,8 +1,7 @@
 -- What every step keeps.
 use Rattle.std.specs.Prelude.{ℕ, ◌<◌, ◌≤◌, Bool, true, false, List, ◌≡◌, ◌⊎◌, Some, None}
 use Rattle.dn_machine.specs.Running.{is_over}
-use Rattle.dn_remain.specs.Vanished.Node.{Node, ran, now, Was, Within, Stands}
-use Rattle.dn_remain.specs.{Vanished.Promise.lacks_at}
+use Rattle.dn_remain.specs.Vanished.{Node.{Node, ran, now, Was, Within, Stands}, Promise.lacks_at}
 
 -- Whatever states one takes that stand for this set, one of each player outside, the highest of their counts
 -- is at least this. So whoever decides for the set decides at least this.

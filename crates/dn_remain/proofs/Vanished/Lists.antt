@@ -1,17 +1,14 @@
 -- Decisions on lists. The last commands of a list that is told are enough for one.
-use Rattle.std.proofs.Common.{◌≡◌, ℕ, ◌<◌, ◌≤◌, ltb, eqb, zero, suc, refl, sym, ◌∙◌, ap, arith, inl, inr, List, [], ◌∷◌, length, cond, ◌+◌, ◌-◌, subst, ◌++◌, take, drop}
-use Rattle.std.specs.Prelude.{◌⊎◌, max, Bool, true, false, Some}
+use Rattle.std.proofs.Common.{◌≡◌, ℕ, ◌<◌, ◌≤◌, ltb, eqb, zero, suc, refl, sym, ◌∙◌, ap, arith, inl, inr, List, [], ◌∷◌, length, cond, ◌+◌, ◌-◌, ◌++◌, take, drop, ◌⊎◌, max, Bool, true, false, Some}
 use Rattle.std.proofs.lemmas.Bool.{cases_eq, cases_lt, cases_Bool, lt-ltb, le-ltb, eq-eqb, ne_eqb, cond-true, cond-false}
-use Rattle.std.proofs.Math.Nat.{max-eq_left, max-eq_right}
-use Rattle.std.proofs.lemmas.{Bool.both_ways, List.take-append-drop, List.take-append-le, List.drop-drop}
-use Rattle.std.proofs.Math.Seq.{take-append_seam, take-length}
+use Rattle.std.proofs.Math.{Nat.{max-eq_left, max-eq_right}, Seq.{take-append_seam, take-length}}
+use Rattle.std.proofs.lemmas.{Bool.both_ways, List.{take-append-drop, take-append-le, drop-drop}}
 use Rattle.dn_machine.proofs.Put.{same_functions}
 use Rattle.dn_machine.specs.{Promise.IsPrefixOf, Node.put}
-use Rattle.dn_remain.specs.Vanished.Node.{highest, share, decided_end, decided}
-use Rattle.dn_remain.proofs.Vanished.Put.{highest_bounds}
+use Rattle.dn_remain.specs.Vanished.{Node.{highest, share, decided_end, decided}, Steps.IsRun}
 use Rattle.dn_remain.specs.Vanished.Commands.{Holder, seen, past_seen, holders, Handed, AreHanded, longer, longest, told, on_decision, HasHeardLists, IsReady, caught_up}
-use Rattle.dn_remain.specs.Vanished.Steps.{IsRun}
-use Rattle.dn_remain.proofs.{Vanished.Invariant.IsKept, Vanished.Views.stands_outside, Vanished.Always.always, Vanished.Tests.bounded, Vanished.Windows.fits, Vanished.Handing.handed, Vanished.Handing.was_seen}
+use Rattle.dn_remain.proofs.Vanished.{Put.highest_bounds, Invariant.IsKept, Views.stands_outside, Always.always}
+use Rattle.dn_remain.proofs.Vanished.{Tests.bounded, Windows.fits, Handing.{handed, was_seen}}
 
 length_if : {C : Type 0} (b : Bool) (xs ys : List C) → length (cond b xs ys) ≡ cond b (length xs) (length ys)
 length_if true xs ys = refl
@@ -69,8 +66,7 @@ module _ {C : Type 0} where
         let a = highest_bounds players (λ r. length (told q holder heard p r)) q l in
         let b : length (told q holder heard p q) ≡ length (holder.held p) =
         ap length (cond-true (eqb q q) _ _ (eq-eqb q q refl)) in
-        let c = longest_counts players (told q holder heard p) in
-        omega arith
+        omega (arith, longest_counts players (told q holder heard p))
 
     pub pieces : (p : ℕ) → q < players → ((on_decision players q holder heard).held p ≡ holder.held p)
         ⊎ ((r : ℕ) × (r < players) × ((r ≡ q → ⊥)) × (holder.gone r ≡ false)
@@ -104,11 +100,7 @@ module _ {C : Type 0} where
 
   catches : (places : ℕ) (own told : List C) → length told ≤ length own + places
       → own ++ drop (length own) told ≡ told → caught_up places own told ≡ told
-  catches places own told l e =
-      let a : length told - places ≤ length own = omega arith in
-      let b : (length told - places) + (length own - (length told - places)) ≡ length own = omega arith in
-      ap (λ (ws : List C). own ++ ws) (drop-drop (length own - (length told - places)) (length told - places) told
-      ∙ ap (λ (i : ℕ). drop i told) b) ∙ e
+  catches places own told l e = grind (arith, told, drop-drop)
 
   module _ (players ahead places : ℕ) (nodes : ℕ → Holder C) (older : List (ℕ → Holder C)) (q : ℕ)
       (heard : ℕ → Holder C) (h : AreHanded (nodes ∷ older))
@@ -169,10 +161,7 @@ module _ {C : Type 0} where
 
     caught : (p : ℕ) → (nodes q).gone p ≡ true → IsCaught p ((on_decision players q (nodes q) heard).held p)
     unfolding IsCaught
-    caught p t = elim (pieces players q (nodes q) heard p l) [
-      | inl e ↦ subst (λ (ws : List C). IsCaught p ws) (sym e) (own_is p)
-      | inr k ↦ grind (arith, is_player, above, near, told_is)
-    ]
+    caught p t = grind (arith, pieces, own_is, is_player, above, near, told_is)
 
     all_is : (p : ℕ) → (nodes q).gone p ≡ true
         → (length ((nodes q).held p) ≤ length ((on_decision players q (nodes q) heard).held p))

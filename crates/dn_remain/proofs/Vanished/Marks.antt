@@ -1,16 +1,15 @@
 -- Where a command comes from, its maker had the rows that the one who has it has. So the marks of two nodes
 -- agree.
-use Rattle.std.proofs.Common.{◌≡◌, ℕ, ◌<◌, ◌≤◌, sym, ◌∙◌, arith, inl, inr, List, ◌+◌, refl, ap, subst, [], ◌∷◌}
-use Rattle.std.specs.Prelude.{false, Some}
-use Rattle.std.proofs.lemmas.Bool.{lt-leb, both_ways, cases_eq, cases_Bool}
+use Rattle.std.proofs.Common.{◌≡◌, ℕ, ◌<◌, ◌≤◌, sym, ◌∙◌, arith, inl, inr, List, ◌+◌, refl, ap, subst, [], ◌∷◌, false}
+use Rattle.std.proofs.{Common.Some, lemmas.Bool.{lt-leb, both_ways, cases_eq, cases_Bool}}
 use Rattle.dn_machine.specs.{Running.is_over, Node.put}
 use Rattle.dn_machine.proofs.Put.{put_at, put_off}
-use Rattle.dn_remain.specs.{Vanished.Node.Node, Vanished.Node.ran, Vanished.Node.Was, Vanished.Promise.lacks_at, Vanished.Node.fresh, Vanished.Node.HasHeard, Vanished.Node.decided_end}
-use Rattle.dn_remain.specs.{Vanished.Node.decided, Vanished.Steps.Act, Vanished.Steps.Make, Vanished.Steps.Take, Vanished.Steps.Learn, Vanished.Steps.Run, Vanished.Steps.GiveUp, Vanished.Steps.Leave}
-use Rattle.dn_remain.specs.{Vanished.Steps.Decide, Vanished.Steps.Acts, Vanished.Steps.Step, Vanished.Steps.IsRun, Vanished.Steps.HandsOn, Vanished.Promise.Marked}
-use Rattle.dn_remain.proofs.{Vanished.Invariant.IsDecision, Vanished.Invariant.IsKept, Vanished.Stepping.cases_Option, Vanished.Views.outside, Vanished.Invariant.IsGrown, Vanished.Stepping.was_other}
-use Rattle.dn_remain.proofs.{Vanished.Stepping.each_was, Vanished.Always.always, Vanished.Behind.behind, Vanished.Behind.handed_behind, Vanished.Always.agree, Vanished.Windows.IsRoomy, Vanished.Windows.roomy}
-use Rattle.dn_remain.proofs.{Vanished.Deciding.got_in, Vanished.Deciding.got_out, Vanished.Deciding.reached, Vanished.Deciding.not_q}
+use Rattle.dn_remain.specs.Vanished.Steps.{Act, Make, Take, Learn, Run, GiveUp, Leave, Decide, Acts, Step, IsRun}
+use Rattle.dn_remain.specs.Vanished.{Steps.HandsOn, Node.{Node, ran, Was, fresh, HasHeard, decided_end, decided}}
+use Rattle.dn_remain.specs.Vanished.Promise.{lacks_at, Marked}
+use Rattle.dn_remain.proofs.Vanished.{Invariant.{IsDecision, IsKept, IsGrown}, Views.outside, Always.{always, agree}}
+use Rattle.dn_remain.proofs.Vanished.{Stepping.{cases_Option, was_other, each_was}, Behind.{behind, handed_behind}}
+use Rattle.dn_remain.proofs.Vanished.{Windows.{IsRoomy, roomy}, Deciding.{got_in, got_out, reached, not_q}}
 
 -- Two nodes ran the same rows, where one has not given up the other, and that other had decided nothing without it.
 
@@ -131,8 +130,7 @@ module _ (players ahead : ℕ) (nodes : ℕ → Node) (older : List (ℕ → Nod
       → back < ran sent → (back < ran (nodes q)) × (lacks_at (nodes q) back r ≡ lacks_at sent back r)
   told_row p r back tic sent m n f w g o a b c d =
       let s = room.near q p a sent l here w g in
-      let t = room.own q (nodes q) (inl refl) in
-      let k : back < ran (nodes q) = omega arith in
+      let k : back < ran (nodes q) = omega (arith, room.own q (nodes q) (inl refl)) in
       (k, (agree players past kept).rows_same q p r back (nodes q) sent l m n f (inl refl) w o g k d)
 
   decided_row : (heard : ℕ → Node) → HasHeard players past q (nodes q) heard

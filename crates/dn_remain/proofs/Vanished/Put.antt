@@ -1,6 +1,5 @@
 -- What holds at each place of a function after one of its values is another, and the largest of some numbers.
-use Rattle.std.proofs.Common.{◌≡◌, ℕ, ◌<◌, ◌≤◌, refl, ◌∙◌, arith, inl, inr, suc, zero}
-use Rattle.std.proofs.lemmas.Bool.{cases_lt}
+use Rattle.std.proofs.{Common.{◌≡◌, ℕ, ◌<◌, ◌≤◌, refl, ◌∙◌, arith, inl, inr, suc, zero}, lemmas.Bool.cases_lt}
 use Rattle.std.proofs.Math.Nat.{le-max_left, le-max_right, max-eq_left, max-eq_right}
 use Rattle.dn_machine.specs.Node.{put}
 use Rattle.dn_machine.proofs.Put.{put_at, put_off, same_functions}
@@ -28,8 +27,7 @@ highest_bounds zero f r h = absurd (omega arith)
 highest_bounds (suc n) f r h = elim (cases_lt r n) [
   | inl l ↦
       let k : f r ≤ highest n f = highest_bounds n f r l in
-      let m = le-max_left (highest n f) (f n) in
-      omega arith
+      omega (arith, le-max_left (highest n f) (f n))
   | inr l ↦ grind (arith, le-max_right)
 ]
 

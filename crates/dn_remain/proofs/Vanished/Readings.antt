@@ -2,7 +2,7 @@
 -- vanishes, and counts are of its commands.
 use Rattle.std.specs.Prelude.{ℕ, ◌==◌, Bool, true, false, [], ◌∷◌, ◌≡◌, refl, Option, Some, None, if◌then◌else◌}
 use Rattle.dn_machine.specs.Node.{put}
-use Rattle.dn_remain.specs.{Vanished.Node.Node, Vanished.Node.fresh, Vanished.Node.highest, Vanished.Node.decided_end, Vanished.Node.decided}
+use Rattle.dn_remain.specs.Vanished.Node.{Node, fresh, highest, decided_end, decided}
 use Rattle.dn_remain.specs.Vanished.Calls.{every, is_report, can_decide, report_or, may_give_up, is_newer}
 use Rattle.dn_remain.specs.Vanished.Commands.{Holder, fresh_holder, commands_to, demo, longest, on_decision, caught_up}
 

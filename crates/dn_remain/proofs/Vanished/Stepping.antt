@@ -1,17 +1,12 @@
 -- When one node steps and its new state meets what is asked of it, all is kept. So the steps that decide
 -- nothing keep all.
-use Rattle.std.proofs.Common.{◌≡◌, ℕ, ◌<◌, ◌≤◌, refl, sym, subst, arith, inl, inr, List, ◌∷◌}
-use Rattle.std.specs.Prelude.{◌⊎◌, true, false, Option, Some, None}
-use Rattle.std.proofs.lemmas.Bool.{both_ways}
-use Rattle.std.proofs.lemmas.{Bool.lt-leb, Option.none-some}
+use Rattle.std.proofs.Common.{◌≡◌, ℕ, ◌<◌, ◌≤◌, refl, sym, subst, arith, inl, inr, List, ◌∷◌, ◌⊎◌, true, false, Option}
+use Rattle.std.proofs.{Common.{Some, None}, lemmas.{Bool.{both_ways, lt-leb}, Option.none-some}}
 use Rattle.dn_machine.proofs.Put.{put_at, put_off}
-use Rattle.dn_machine.specs.Node.{put}
-use Rattle.dn_machine.specs.{Running.is_over}
-use Rattle.dn_remain.specs.Vanished.Node.{Node, Was, ran, now, Within}
-use Rattle.dn_remain.proofs.Vanished.Put.{at_put}
-use Rattle.dn_remain.proofs.Vanished.Invariant.{IsLater, IsSound, IsMet, IsKept, IsGrown, HasSource}
+use Rattle.dn_machine.specs.{Node.put, Running.is_over}
+use Rattle.dn_remain.specs.Vanished.{Node.{Node, Was, ran, now, Within}, Promise.lacks_at}
+use Rattle.dn_remain.proofs.Vanished.{Put.at_put, Invariant.{IsLater, IsSound, IsMet, IsKept, IsGrown, HasSource}}
 use Rattle.dn_remain.proofs.Vanished.Views.{later_self, later_joined, later_kept, sound_kept, outside, source_kept}
-use Rattle.dn_remain.specs.Vanished.Promise.{lacks_at}
 
 -- what is asked of the new state of node `q`
 pub record IsGood (players : ℕ) (nodes : ℕ → Node) (older : List (ℕ → Node)) (q : ℕ) (new : Node) : Type 0 where
@@ -91,10 +86,7 @@ module _ (players : ℕ) (nodes : ℕ → Node) (older : List (ℕ → Node)) (q
 
   met_after : (x z : ℕ) (u v : Node) → x < players → z < players → (x ≡ z → ⊥) → Was after x u → Was after z v
       → IsMet x z u v
-  met_after x z u v l m n w y = each (λ x u. x < players → (x ≡ z → ⊥) → IsMet x z u v)
-      (λ l n. good.met_left z v m (λ e. n (sym e)) (was_other nodes older q new z v (λ e. n (sym e)) y))
-      (λ x u w l n. each (λ z v. z < players → (x ≡ z → ⊥) → IsMet x z u v) (λ m n. good.met_right x u l n w)
-      (λ z v y m n. kept.met x z u v l m n w y) z v y m n) x u w l n
+  met_after x z u v l m n w y = grind (arith, each, was_other)
 
   pub kept_after : IsKept players after
   kept_after = record { order = order_after; pairs = pairs_after; sound = sound_after; met = met_after }
@@ -112,10 +104,7 @@ pub record IsTold (players : ℕ) (u : Node) : Type 0 where
 pub told_still : (players : ℕ) (node new : Node) → IsTold players node → new.rows ≡ node.rows
     → ((p : ℕ) → node.got p ≤ new.got p) → ((p e : ℕ) → node.ends p ≡ Some e → new.ends p ≡ Some e)
     → ((p e : ℕ) → new.ends p ≡ Some e → new.got p ≡ e) → IsTold players new
-told_still players node new h same got old full = record {
-  rows = grind (arith, cases_Option, lt-leb);
-  ahead = grind (arith, cases_Option, none-some);
-}
+told_still players node new h same got old full = grind (arith, cases_Option, lt-leb, none-some)
 
 pub told_of : (players : ℕ) (history : List (ℕ → Node)) (x : ℕ) (u : Node) → IsSound players history x u
     → IsTold players u

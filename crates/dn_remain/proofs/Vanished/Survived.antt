@@ -1,10 +1,7 @@
 -- Three players, one of whom vanishes: player 2 gets its only command from player 1's report, and runs on.
-use Rattle.std.proofs.Common.{◌≡◌, ℕ, ◌+◌, ◌<◌, refl, arith, inl, List, [], ◌∷◌, ◌++◌}
-use Rattle.std.specs.Prelude.{true, false, Some}
-use Rattle.std.proofs.lemmas.Bool.{true≢false}
+use Rattle.std.proofs.Common.{◌≡◌, ℕ, ◌+◌, ◌<◌, refl, arith, inl, List, [], ◌∷◌, ◌++◌, true, false, Some, true≢false}
 use Rattle.dn_machine.specs.{Running.is_over, Node.put}
-use Rattle.dn_remain.specs.Vanished.Node.{Node, fresh, ran, now, HasHeard, highest, decided}
-use Rattle.dn_remain.specs.{Vanished.Promise.lacks_at}
+use Rattle.dn_remain.specs.Vanished.{Node.{Node, fresh, ran, now, HasHeard, highest, decided}, Promise.lacks_at}
 use Rattle.dn_remain.specs.Vanished.Steps.{Act, Make, Take, Run, GiveUp, Decide, Acts, Step, IsRun}
 
 step : (nodes : ℕ → Node) (older : List (ℕ → Node)) (q : ℕ) (act : Act) (new : Node) → q < 3

@@ -1,15 +1,13 @@
 -- What the tests of a node say, and what a node lacks that cannot decide. The tests ask for no more than
 -- they need.
-use Rattle.std.proofs.Common.{◌≡◌, ℕ, ◌<◌, ◌≤◌, eqb, zero, suc, refl, sym, ◌∙◌, ap, subst, arith, inl, inr, List, [], ◌∷◌}
-use Rattle.std.specs.Prelude.{Bool, true, false, not, ◌||◌, Option, Some, ◌&&◌}
+use Rattle.std.proofs.Common.{◌≡◌, ℕ, ◌<◌, ◌≤◌, eqb, zero, suc, refl, sym, ◌∙◌, ap, subst, arith, inl, inr, List, [], ◌∷◌, Bool, true, false, not, ◌||◌, Option, Some, ◌&&◌}
 use Rattle.std.proofs.lemmas.Bool.{both_ways, cases_eq, cases_lt, and_parts, or_cases, not-true, eqb-true, true≢false, cases_Bool, eq-eqb, cond-true}
 use Rattle.dn_machine.proofs.Put.{put_at, put_off}
 use Rattle.dn_machine.specs.Node.{put}
-use Rattle.dn_remain.specs.Vanished.Node.{Node, now, Was, Within, Stands, HasHeard}
-use Rattle.dn_remain.specs.Vanished.Calls.{every, is_within_at, is_report, is_report_in, is_heard, can_decide, report_or, Keeper, after_news, is_newer}
-use Rattle.dn_remain.specs.Vanished.Steps.{Act, Acts, IsRun}
+use Rattle.dn_remain.specs.Vanished.Calls.{every, is_within_at, is_report, is_report_in, is_heard, can_decide}
+use Rattle.dn_remain.specs.Vanished.{Calls.{report_or, Keeper, after_news, is_newer}, Steps.{Act, Acts, IsRun}}
+use Rattle.dn_remain.specs.Vanished.{Node.{Node, now, Was, Within, Stands, HasHeard}, Promise.Steady}
 use Rattle.dn_remain.proofs.{Vanished.Views.both_within, Vanished.Stepping.cases_Option, Vanished.Invariant.IsLater, Vanished.Invariant.IsKept, Vanished.Views.same_within, Vanished.Views.same_turned}
-use Rattle.dn_remain.specs.{Vanished.Promise.Steady}
 
 both : (a b : Bool) → a ≡ true → b ≡ true → (a && b) ≡ true
 both a b e f = ap (λ (x : Bool). x && b) e ∙ f

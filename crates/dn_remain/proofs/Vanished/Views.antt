@@ -1,6 +1,5 @@
 -- States of nodes, and what of them stays when a node steps.
-use Rattle.std.proofs.Common.{◌≡◌, ℕ, ◌<◌, ◌≤◌, sym, ◌∙◌, arith, inl, inr, List, ◌∷◌}
-use Rattle.std.specs.Prelude.{Bool, true, false}
+use Rattle.std.proofs.Common.{◌≡◌, ℕ, ◌<◌, ◌≤◌, sym, ◌∙◌, arith, List, ◌∷◌, Bool, true, false}
 use Rattle.std.proofs.lemmas.Bool.{both_ways, false_from_ne_true}
 use Rattle.dn_remain.specs.Vanished.Node.{Node, now, Was, Same, Within, Stands}
 use Rattle.dn_remain.proofs.Vanished.Invariant.{IsBase, IsDecision, IsFrozen, IsLater, HasSource, IsSound, IsKept}
@@ -48,8 +47,7 @@ module _ (players : ℕ) where
   later_joined history x u v w h k = grind arith
 
   -- the old history, and the one with these nodes before it
-  module _ (history : List (ℕ → Node)) (next : ℕ → Node)
-      (grows : (r p : ℕ) → (now history r).got p ≤ (next r).got p)
+  module _ (history : List (ℕ → Node)) (next : ℕ → Node) (grows : (r p : ℕ) → (now history r).got p ≤ (next r).got p)
       (kept : IsKept players history) where
     -- a floor stays one: a new state of a player has no lower count than an old one that stands for the set
     pub base_kept : (set : ℕ → Bool) (p e : ℕ)
@@ -57,11 +55,7 @@ module _ (players : ℕ) where
         → IsBase players history set p e → IsBase players (next ∷ history) set p e
     base_kept set p e sees h = record {
       bound = λ b k. h.bound b (λ r l o.
-          let g = k r l o in
-          elim g.1 [
-            | inl e ↦ grind arith
-            | inr e ↦ (g.0, e, g.2, g.3)
-          ]);
+          grind (arith, k r l o));
     }
 
     pub decision_kept : (x : ℕ) (d : Node) → IsDecision players history x d
@@ -72,8 +66,7 @@ module _ (players : ℕ) where
         → IsFrozen players (next ∷ history) x u v p
     frozen_kept x u v p h = grind (arith, decision_kept)
 
-    pub later_kept : (x : ℕ) (u v : Node) → IsLater players history x u v
-        → IsLater players (next ∷ history) x u v
+    pub later_kept : (x : ℕ) (u v : Node) → IsLater players history x u v → IsLater players (next ∷ history) x u v
     later_kept x u v h = record {
       gone = h.gone;
       got = h.got;

@@ -1,16 +1,13 @@
 -- How far counts may lie apart, how many commands a node has that it has not run, and what else fits. Every
 -- command was made by a step that might make it.
-use Rattle.std.proofs.Common.{◌≡◌, ℕ, ◌+◌, ◌<◌, ◌≤◌, refl, sym, ◌∙◌, ap, subst, arith, inl, inr, List, [], ◌∷◌}
-use Rattle.std.specs.Prelude.{false, None, true}
-use Rattle.std.proofs.lemmas.{Bool.both_ways, List.length_push}
-use Rattle.std.proofs.lemmas.Bool.{cases_eq, cases_lt, cases_Bool}
+use Rattle.std.proofs.Common.{◌≡◌, ℕ, ◌+◌, ◌<◌, ◌≤◌, refl, sym, ◌∙◌, ap, subst, arith, inl, inr, List, [], ◌∷◌, false}
+use Rattle.std.proofs.{Common.{None, true}, lemmas.{Bool.{both_ways, cases_eq, cases_lt, cases_Bool}, List.length_push}}
 use Rattle.dn_machine.proofs.Put.{put_at, put_off}
 use Rattle.dn_machine.specs.Node.{put}
-use Rattle.dn_remain.specs.Vanished.Node.{Node, ran, fresh, now, Was, HasHeard, decided}
-use Rattle.dn_remain.specs.Vanished.Steps.{Act, Acts, Step, IsRun, HandsOn, Make, Take, Learn, Run, GiveUp, Leave, Decide}
+use Rattle.dn_remain.specs.Vanished.Steps.{Act, Acts, Step, IsRun, HandsOn, Make, Take, Learn, Run, GiveUp, Leave}
+use Rattle.dn_remain.specs.Vanished.{Steps.Decide, Node.{Node, ran, fresh, now, Was, HasHeard, decided}, Promise.Fits}
 use Rattle.dn_remain.proofs.{Vanished.Invariant.IsKept, Vanished.Views.outside, Vanished.Views.stands_outside, Vanished.Stepping.was_q, Vanished.Stepping.was_other, Vanished.Stepping.cases_Option}
 use Rattle.dn_remain.proofs.{Vanished.Deciding.got_in, Vanished.Deciding.got_out, Vanished.Deciding.reached, Vanished.Always.always, Vanished.Put.at_put, Vanished.Stepping.each_was}
-use Rattle.dn_remain.specs.Vanished.Promise.{Fits}
 
 module _ (players ahead : ℕ) (nodes : ℕ → Node) (older : List (ℕ → Node)) (q : ℕ) (l : q < players)
     (here : (nodes q).left ≡ false) (kept : IsKept players (nodes ∷ older)) (tic : ℕ)
@@ -92,14 +89,7 @@ module _ (players ahead : ℕ) (nodes : ℕ → Node) (older : List (ℕ → Nod
         | inl e ↦ grind arith
         | inr e ↦ elim (sound.source x e.0 e.1) [
           | inl k ↦ absurd (both_ways (nodes x).left h k.0)
-          | inr d ↦
-              let w = d.1.sees q l (outside d.0.gone sent.gone q d.4 g) in
-              elim w.2 [
-                | inl same ↦ absurd (both_ways ((nodes q).gone x) o
-                    ((kept.order q w.0 w.1).gone x (same x ∙ d.2)))
-                | inr gone ↦ absurd (both_ways (nodes q).left here
-                    (ap (λ (n : Node). n.left) ((kept.order q w.0 w.1).left gone.0) ∙ gone.0))
-              ]
+          | inr d ↦ grind (arith, d.1.sees q l (outside d.0.gone sent.gone q d.4 g), both_ways)
         ]
       ]
 
@@ -203,8 +193,7 @@ unread_now players ahead history run x p l h =
     let room = roomy players ahead history run in
     let here = now_was players ahead history run x in
     let a = room.own x (now history x) here in
-    let b = room.near x x p (now history x) l h here (kept.sound x (now history x) here).own in
-    omega arith
+    omega (arith, room.near x x p (now history x) l h here (kept.sound x (now history x) here).own)
 
 unread : (players ahead : ℕ) (history : List (ℕ → Node)) → IsRun players ahead history → (x p : ℕ) (u : Node)
     → x < players → Was history x u → u.got p ≤ ran u + (ahead + ahead)

@@ -7,8 +7,7 @@ pub row-requires : goal.row-requires
 row-requires g c =
     let below : c.loop-tic.tic < length c.args.demo.now.rows = omega arith in
     (row_kept (layout_of c.demo.inside.layout) _ _ _ _ _ _ _ c.demo.invariant.0.whole c.demo.view_is
-    c.as_slice-bytes.ensures.value c.present-present.ensures.value c.players-players.ensures.value
-    below).0
+    c.as_slice-bytes.ensures.value c.present-present.ensures.value c.players-players.ensures.value below).0
 
 pub overflow_mul-players : goal.overflow_mul-players
 overflow_mul-players g c = omega (arith, row-requires g c)
@@ -19,8 +18,7 @@ loop-tic-preserved g c =
     let demo = c.args.demo.now in
     let below : c.loop-tic.tic < length demo.rows = omega arith in
     let row = row_kept (layout_of c.demo.inside.layout) _ _ _ _ _ _ _ c.demo.invariant.0.whole c.demo.view_is
-    c.as_slice-bytes.ensures.value c.present-present.ensures.value c.players-players.ensures.value
-    below in
+    c.as_slice-bytes.ensures.value c.present-present.ensures.value c.players-players.ensures.value below in
     fold-row physics.step (physics.begin demo.start demo.present) _ _ demo.rows c.loop-tic.tic _
     (ap (λ x. Some x) c.row.ensures ∙ row.1) c.loop-tic.invariant c.step.ensures
 

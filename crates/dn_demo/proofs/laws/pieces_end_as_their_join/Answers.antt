@@ -8,8 +8,7 @@ use Rattle.dn_demo.proofs.OneReading.{same_demo, same_layout}
 use Rattle.dn_demo.proofs.laws.pieces_end_as_their_join.Goals as goal
 
 shown_all : {S W : Type 0} (state : W → S) (physics : Physics S) (bytes : List ℕ) (pieces : List (List ℕ))
-    (f g : Feeding W)
-    → Shows state physics bytes f → TakesAll state physics f pieces g
+    (f g : Feeding W) → Shows state physics bytes f → TakesAll state physics f pieces g
     → Shows state physics (bytes ++ concat pieces) g
 shown_all {W = W} state physics bytes [] f g shown all =
     subst (λ (b : List ℕ). Shows state physics b g) (sym (append-nil bytes))
@@ -65,8 +64,7 @@ one_end state physics bytes (Err f) (Ok b) p q = absurd (no_fault bytes q.0 f q.
 one_end state physics bytes (Err f) (Err e) p q = one_fault bytes f e p q
 
 pieces_same : {S W : Type 0} (state : W → S) (physics : Physics S) (pieces others : List (List ℕ))
-    (one other : Result (Fed W) FeedFault)
-    → concat pieces ≡ concat others → PiecesEndAs state physics pieces one
+    (one other : Result (Fed W) FeedFault) → concat pieces ≡ concat others → PiecesEndAs state physics pieces one
     → PiecesEndAs state physics others other → IsSameEnd state physics one other
 pieces_same state physics pieces others one other same p q =
     one_end state physics (concat others) one other

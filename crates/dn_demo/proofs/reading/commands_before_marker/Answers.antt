@@ -1,5 +1,4 @@
-use Rattle.std.proofs.Common.{min, arith}
-use Rattle.std.proofs.lemmas.{List.take_rest, Bool.Decides.nat_tests}
+use Rattle.std.proofs.{Common.{min, arith}, lemmas.{List.take_rest, Bool.Decides.nat_tests}}
 use Rattle.dn_demo.proofs.OneReading.{passed, next_rest, nowhere}
 use Rattle.dn_demo.proofs.reading.commands_before_marker.Goals as goal
 

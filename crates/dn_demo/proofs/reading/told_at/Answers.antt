@@ -5,8 +5,7 @@ use Rattle.dn_demo.specs.{Layout.Layout, Layout.command_size, Layout.tell, Place
 use Rattle.dn_demo.proofs.reading.told_at.Goals as goal
 
 -- the command that stands at an index of the bytes
-told_behind : (layout : Layout) (front bytes : List ℕ) (at command : ℕ)
-    → length front + at ≡ place layout command
+told_behind : (layout : Layout) (front bytes : List ℕ) (at command : ℕ) → length front + at ≡ place layout command
     → tell layout (take (command_size layout) (drop at bytes)) ≡ move_at layout (front ++ bytes) command
 told_behind layout front bytes at command e =
     ap (λ (t : List ℕ). tell layout (take (command_size layout) t))

@@ -1,5 +1,4 @@
-use Rattle.std.proofs.Common.{◌≡◌, ◌++◌, take}
-use Rattle.std.specs.Vec.{vec_capacity}
+use Rattle.std.proofs.Common.{◌≡◌, ◌++◌, take, vec_capacity}
 use Rattle.dn_demo.proofs.recorder.append.Given as goal
 
 abbrev pub invariant-loop-byte : goal.invariant-loop-byte

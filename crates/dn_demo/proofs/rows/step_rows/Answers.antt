@@ -1,6 +1,5 @@
-use Rattle.std.proofs.Common.{rules, false, arith}
-use Rattle.std.proofs.lemmas.{List.take_rest, Bool.Decides.nat_tests}
-use Rattle.dn_demo.specs.{Layout.layout_of}
+use Rattle.std.proofs.{Common.{rules, false, arith}, lemmas.{List.take_rest, Bool.Decides.nat_tests}}
+use Rattle.dn_demo.specs.Layout.{layout_of}
 use Rattle.dn_demo.proofs.Stepping.{steps_none, steps_more}
 use Rattle.dn_demo.proofs.rows.step_rows.Goals as goal
 

@@ -1,6 +1,5 @@
-use Rattle.std.proofs.lemmas.{Bool.Decides.nat_tests, Bool.le-leb}
+use Rattle.std.proofs.{lemmas.Bool.{le-leb, Decides.nat_tests}, Math.Seq.take-length}
 use Rattle.std.proofs.Common.{◌≡◌, ◌<◌, ◌*◌, ◌∙◌, false, true, length, nat_le, Some, sym, ap, arith, rules, take, length-append, List, Option}
-use Rattle.std.proofs.Math.Seq.{take-length}
 use Rattle.dn_tic.specs.declared.command.Move.{Move}
 use Rattle.dn_demo.specs.{Layout.{layout_of, long_tics, command_size}, Text.{player_count, demo_text}, Places.seats_in, Recorded.{Recorded, recorded_size, upgraded_size}}
 use Rattle.dn_demo.proofs.{Fronts.row_kept, RecordedAnew.{one_more, length-none, row_fits, row_recordable}}
@@ -13,8 +12,7 @@ pub row-requires : goal.row-requires
 row-requires c =
     let below : c.loop-tic.tic < length c.args.demo.now.rows = omega arith in
     (row_kept (layout_of c.demo.inside.layout) _ _ _ _ _ _ _ c.demo.invariant.0.whole c.demo.view_is
-    c.as_slice-bytes.ensures.value c.present-present.ensures.value c.players-players.ensures.value
-    below).0
+    c.as_slice-bytes.ensures.value c.present-present.ensures.value c.players-players.ensures.value below).0
 
 pub add_row-requires-clause-row : goal.add_row-requires-clause-row
 add_row-requires-clause-row c =
@@ -36,8 +34,7 @@ loop-tic-preserved c =
     let players : player_count (seats_in l.recorder.bytes) ≡ player_count demo.present =
     ap player_count l.invariant.seats in
     let row = row_kept (layout_of c.demo.inside.layout) _ _ _ _ _ _ _ c.demo.invariant.0.whole c.demo.view_is
-    c.as_slice-bytes.ensures.value c.present-present.ensures.value c.players-players.ensures.value
-    below in
+    c.as_slice-bytes.ensures.value c.present-present.ensures.value c.players-players.ensures.value below in
     let size = added.size ∙ ap (λ n. command_size long_tics * n) players in
     let new = added.written in
     record {

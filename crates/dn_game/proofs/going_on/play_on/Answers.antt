@@ -1,5 +1,4 @@
-use Rattle.std.proofs.Common.{ℕ, length, subst}
-use Rattle.std.specs.Prelude.{IfOk}
+use Rattle.std.proofs.Common.{ℕ, length, subst, IfOk}
 use Rattle.dn_tic.specs.declared.input.Input.{Input}
 use Rattle.dn_game.specs.{GoingOn.{HasPlayedOn, HasBrokenOff}, Opening.rules_in}
 use Rattle.dn_game.proofs.Arriving.{keys_as_inputs}

@@ -34,6 +34,3 @@ returns-in-Err-good_rounds_with-clause-stopped g c fault is =
 pub returns-in-Ok-good_rounds_with-clause-limits : goal.returns-in-Ok-good_rounds_with-clause-limits
 returns-in-Ok-good_rounds_with-clause-limits g c =
     limits_stay _ _ _ c.good_rounds_with.ensures.continues.whose c.in-Ok.ensures.limits
-
-pub returns-in-Ok-good_rounds_with-clause-room : goal.returns-in-Ok-good_rounds_with-clause-room
-returns-in-Ok-good_rounds_with-clause-room g c = c.good_rounds_with.ensures.continues.grown c.in-Ok.ensures.room

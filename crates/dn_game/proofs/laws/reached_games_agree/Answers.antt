@@ -29,5 +29,4 @@ returns-clause-answered g c players extra capacity settings events answers conte
 pub returns-clause-shown : goal.returns-clause-shown
 returns-clause-shown g c players extra capacity settings events contents i n reached at =
     shows_reached _ (rules_of g.W.World.physics players extra capacity) settings n.demo.limit events contents
-    reached i n at
-    refl
+    reached i n at refl

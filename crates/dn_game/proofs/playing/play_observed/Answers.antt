@@ -54,9 +54,3 @@ returns-clause-run g c =
     let all = rw (take_all c.loop-event.event-index c.args.events.now c.loop-event-test.false)
     at c.loop-event.invariant.1 in
     record { run = (all.0, all.2); observed = all.1 }
-
-pub returns-clause-limits : goal.returns-clause-limits
-returns-clause-limits g c = c.loop-event.invariant.2
-
-pub returns-clause-room : goal.returns-clause-room
-returns-clause-room g c = c.loop-event.invariant.3

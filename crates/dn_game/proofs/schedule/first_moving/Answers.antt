@@ -1,5 +1,4 @@
-use Rattle.std.proofs.Common.{◌≡◌, ℕ, Bool, false, ap, sym, ◌∙◌, arith}
-use Rattle.std.specs.Prelude.{slice_index_or}
+use Rattle.std.proofs.Common.{◌≡◌, ℕ, Bool, false, ap, sym, ◌∙◌, arith, slice_index_or}
 use Rattle.dn_machine.specs.Node.{lowest}
 use Rattle.dn_lockstep.proofs.Lowest.{lowest_zero}
 use Rattle.dn_game.proofs.GoingRound.{moves, goes_past, moving_found, moving_none, all_stopped}

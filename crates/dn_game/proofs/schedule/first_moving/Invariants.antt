@@ -1,5 +1,4 @@
-use Rattle.std.proofs.Common.{◌≡◌, ℕ, false, None}
-use Rattle.std.specs.Prelude.{slice_index_or}
+use Rattle.std.proofs.Common.{◌≡◌, ℕ, false, None, slice_index_or}
 use Rattle.dn_machine.specs.Node.{lowest}
 use Rattle.dn_game.proofs.GoingRound.{moves}
 use Rattle.dn_game.proofs.schedule.first_moving.Given as goal

@@ -1,6 +1,5 @@
 -- A schedule stops nobody.
-use Rattle.std.proofs.Common.{◌≡◌, ◌≤◌, length, arith, ℕ, Bool, true, false, List, [], ◌∷◌, Option, Some, Result, refl, ap, sym, ◌∙◌}
-use Rattle.std.specs.Option.{option_map}
+use Rattle.std.proofs.Common.{◌≡◌, ◌≤◌, length, arith, ℕ, Bool, true, false, List, [], ◌∷◌, Option, Some, Result, refl, ap, sym, ◌∙◌, option_map}
 use Rattle.rand_pcg.specs.Lcg.{Lcg}
 use Rattle.dn_machine.specs.{declared.events.Done.Done, declared.events.Event.Event, declared.events.Event.TheVariants.Stop, declared.events.Refusal.Refusal, Game.{Game, opening_game, applied}, Worlds.Rules}
 use Rattle.dn_game.specs.{Played.Answers, Schedule.{word, behind, behind_three, generator_of, event_of, scheduled, AllStopped}, Contents.contents, Stormed.{Follows, IsStormed}, declared.played.Played.Played, Opening.rules_in}
@@ -25,8 +24,7 @@ given_moves players game a c found event e = grind (arith, event_moves)
 
 module _ {S : Type 0} (rules : Rules S) where
   answered : (game next : Game) (event : Event) (answer : Result Done Refusal) → stops event ≡ false
-      → Answers rules game event answer next
-      → next.stopped ≡ game.stopped
+      → Answers rules game event answer next → next.stopped ≡ game.stopped
   unfolding applied
   answered game next event answer moves is = grind arith
 
@@ -37,8 +35,7 @@ module _ {S : Type 0} (rules : Rules S) where
   nobody_stops generator [] (a ∷ answers) rest game last way = absurd way
   nobody_stops generator (e ∷ events) [] rest game last way = absurd way
   nobody_stops generator (e ∷ events) (a ∷ answers) rest game last (first, (then, one, way)) =
-      nobody_stops (behind_three generator) events answers rest then last way
-      ∙ answered game then e a
+      nobody_stops (behind_three generator) events answers rest then last way ∙ answered game then e a
       (given_moves rules.players game (word generator) (word (behind (behind generator))) _ e first) one
 
 opening_moves : (settings : Settings) (node : ℕ) → (opening_game settings).stopped node ≡ false
@@ -109,8 +106,7 @@ loop-preserved g c =
           )
       | in_default w ↦
           absurd (storm_goes_on _ game config.settings c.args.seed c.loop.counter c.loop.played s
-          c.loop.played.game.two
-          (c.next.ensures.stopped.0 w.in_default.is))
+          c.loop.played.game.two (c.next.ensures.stopped.0 w.in_default.is))
     ]
 
 pub returns-clause-agreed : goal.returns-clause-agreed
@@ -125,9 +121,3 @@ returns-clause-run g c =
       run = (c.loop.invariant.1.0, c.loop.invariant.1.3);
       observed = c.loop.invariant.1.2;
     })
-
-pub returns-clause-limits : goal.returns-clause-limits
-returns-clause-limits g c = c.loop.invariant.2
-
-pub returns-clause-room : goal.returns-clause-room
-returns-clause-room g c = c.loop.invariant.3

@@ -23,7 +23,7 @@ returns-clause-brought c = λ marking limits settings session links player seal 
 pub returns-clause-exits : goal.returns-clause-exits
 returns-clause-exits c = λ marking limits settings session links player to seal pace new bytes linked were mine below
     apart twelve narrow near left goes_on full gives. exits marking limits settings session links linked player mine were
-    to below apart seal pace new bytes gives twelve narrow near left goes_on full
+    to below apart seal pace new bytes gives twelve near left goes_on narrow full
 
 pub returns-clause-learnt : goal.returns-clause-learnt
 returns-clause-learnt c = λ marking limits settings session links player seal bytes new answer bundle end linked were mine

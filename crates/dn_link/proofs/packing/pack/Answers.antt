@@ -1,4 +1,4 @@
-use Rattle.std.proofs.Common.{rules, ◌≡◌, ◌≤◌, ◌<◌, ◌+◌, ◌∷◌, [], refl, length, arith}
+use Rattle.std.proofs.Common.{rules, ◌≡◌, ◌≤◌, ◌∷◌, [], refl, length, arith}
 use Rattle.dn_link.proofs.{Packings.IsFull, Packings.packs_on, Packings.packs_all, packing.pack.Goals.in-Some+then-is_full, packing.pack.Goals.in_default}
 use Rattle.dn_link.proofs.packing.pack.Goals as goal
 

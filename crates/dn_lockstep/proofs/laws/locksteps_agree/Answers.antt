@@ -9,8 +9,7 @@ use Rattle.dn_lockstep.proofs.laws.locksteps_agree.Goals as goal
 
 pub returns-clause-agreed : goal.returns-clause-agreed
 returns-clause-agreed c marking limits settings session game =
-    subst (λ (inputs : Inputs). AreAgreed limits settings inputs session.locksteps)
-    (same_functions game.inputs)
+    subst (λ (inputs : Inputs). AreAgreed limits settings inputs session.locksteps) (same_functions game.inputs)
     (agreed (beside marking limits) settings game.last (kept marking limits settings game) session.locksteps
     game.nodes)
 

@@ -1,20 +1,17 @@
-use Rattle.std.proofs.Common.{rules, ◌≡◌, ◌<◌, ℕ, List, length, map, is_some, not, set, Option, Some, ap, sym, ◌∙◌, arith}
-use Rattle.std.proofs.lemmas.List.Elements.{All-set, All-replicate}
-use Rattle.std.specs.Prelude.{IfSome}
+use Rattle.std.proofs.Common.{rules, ◌≡◌, ◌<◌, ℕ, List, length, map, is_some, not, set, Option, Some, ap, sym, ◌∙◌}
+use Rattle.std.proofs.{Common.{arith, IfSome}, lemmas.List.Elements.{All-set, All-replicate}}
 use Rattle.dn_tic.specs.declared.command.Move.{Move}
 use Rattle.dn_demo.specs.Text.{IsMove, IsRecordable}
 use Rattle.dn_machine.specs.Node.{is_whole, lacks}
 use Rattle.dn_lockstep.specs.{Tables.{peer_at, ring_at}, Rows.is_gone}
-use Rattle.dn_lockstep.proofs.Lowest.{lowest_zero, some_found, some_past}
+use Rattle.dn_lockstep.proofs.{Lowest.{lowest_zero, some_found, some_past}, rows.fill_row.Goals.{then-gone, else-gone}}
 use Rattle.dn_lockstep.proofs.Seats.{seat_more, seat_none, seat_free, own_gone, whole_below, seats_more, seats_set, whole_gone, here_all, used_recordable}
-use Rattle.dn_lockstep.proofs.rows.fill_row.Goals.{then-gone, else-gone}
 use Rattle.dn_lockstep.proofs.rows.fill_row.Goals as goal
 
 pub at-requires-clause-there : goal.at-requires-clause-there
 at-requires-clause-there c =
     here_all (ring_at c.args.rings.now) (peer_at c.args.peers.now) c.args.players c.args.tic c.requires.there
-    c.loop-player.player c.loop-player-test.true
-    (sym c.gone.ensures ∙ c.if-gone.false)
+    c.loop-player.player c.loop-player-test.true (sym c.gone.ensures ∙ c.if-gone.false)
 
 pub loop-player-init : goal.loop-player-init
 loop-player-init c = grind (arith, lowest_zero, All-replicate)
@@ -35,8 +32,7 @@ loop-player-preserved c =
           let free = ap (λ (r : List (Option Move)). lacks r player) inv.row
           ∙ seat_free rings peers tic player seat ∙ sym gone in
           record {
-            row = w.row-is ∙ inv.row ∙ seat_none rings peers tic player seat
-                (own_gone rings peers tic player gone);
+            row = w.row-is ∙ inv.row ∙ seat_none rings peers tic player seat (own_gone rings peers tic player gone);
             seats = rw w.row-is (seats_more row (is_gone peers tic) player free inv.seats);
             whole = w.whole-is ∙ ap not (sym (some_found player (is_gone peers tic) gone));
             able = rw w.row-is inv.able;
@@ -47,8 +43,7 @@ loop-player-preserved c =
           let new : c.if-gone.row ≡ set row player (Some step) =
           w.row-is ∙ ap (λ (k : ℕ). set row k (Some step)) w.from.ensures in
           let stays = sym c.gone.ensures ∙ w.if-gone.false in
-          let able : IsRecordable step =
-          rw w.round.ensures (used_recordable w.at.result w.at.ensures.no_stop) in
+          let able : IsRecordable step = rw w.round.ensures (used_recordable w.at.result w.at.ensures.no_stop) in
           let ranged : IsMove step = search rules in
           record {
             row = grind (arith, seat_more);

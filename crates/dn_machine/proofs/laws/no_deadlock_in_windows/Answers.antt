@@ -8,8 +8,7 @@ pub returns-clause-goes_on : goal.returns-clause-goes_on
 returns-clause-goes_on g c limits packets settings events game window swift into run none_lost several fits inputs
     tics room =
     goes_on_with (rules_within g.W.World.physics limits) settings fits several events game run none_lost
-    window swift packets into inputs tics 1 (13 + packets) room
-    (omega arith)
+    window swift packets into inputs tics 1 (13 + packets) room (omega arith)
 
 pub returns-clause-keeps_on : goal.returns-clause-keeps_on
 returns-clause-keeps_on g c limits packets settings events game window swift into run none_lost several fits =

@@ -1,5 +1,4 @@
-use Rattle.std.proofs.Common.{◌≡◌, ◌++◌, ◌≤◌, [], drop, length}
-use Rattle.std.specs.String.{string_bytes}
+use Rattle.std.proofs.Common.{◌≡◌, ◌++◌, ◌≤◌, [], drop, length, string_bytes}
 use Rattle.dn_netgame.specs.Texts.{node_lines}
 use Rattle.dn_netgame.proofs.netloop.push_all.Given as goal
 

@@ -1,5 +1,4 @@
-use Rattle.std.proofs.Common.{inl, refl}
-use Rattle.std.specs.String.{string_bytes}
+use Rattle.std.proofs.Common.{inl, refl, string_bytes}
 use Rattle.dn_netgame.proofs.{Showing.prints_such, Seated.all_played}
 use Rattle.dn_netgame.proofs.netloop.run_loop.Goals as goal
 

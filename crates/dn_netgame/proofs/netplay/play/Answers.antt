@@ -1,5 +1,4 @@
-use Rattle.std.proofs.Common.{◌≡◌, ◌<◌, length, slice_index_or, ◌∙◌, subst, arith}
-use Rattle.std.proofs.lemmas.Option.{slice_get-get_or}
+use Rattle.std.proofs.{Common.{◌≡◌, ◌<◌, length, slice_index_or, ◌∙◌, subst, arith}, lemmas.Option.slice_get-get_or}
 use Rattle.dn_world.specs.Plane.{Spots, walking}
 use Rattle.dn_netgame.specs.{Lines.Udp.{Ports, UdpSends, UdpPolls}, Turning.Seat, PlayShown.{failures, new_seat, PlaysOut}}
 use Rattle.dn_netgame.proofs.Seated.{alone}

@@ -1,5 +1,4 @@
-use Rattle.std.proofs.Common.{◌≡◌, inl, false, ◌∙◌, refl, rules}
-use Rattle.std.specs.String.{string_bytes}
+use Rattle.std.proofs.Common.{◌≡◌, inl, false, ◌∙◌, refl, rules, string_bytes}
 use Rattle.dn_node.specs.Contents.{contents}
 use Rattle.dn_netgame.specs.Texts.{node_line}
 use Rattle.dn_netgame.proofs.{Showing.prints_such, Seated.played}

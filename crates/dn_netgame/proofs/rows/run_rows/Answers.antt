@@ -1,6 +1,6 @@
 use Rattle.std.proofs.Common.{rules, ◌≡◌, ◌++◌, ℕ, List, [], sym, subst, inr, arith, append-nil, Err}
-use Rattle.std.specs.{String.string_bytes, Io.KnownBytes.{Appends, Consumes}}
 use Rattle.std.proofs.KnownBytes.{Appends-trans}
+use Rattle.std.specs.{String.string_bytes, Io.KnownBytes.{Appends, Consumes}}
 use Rattle.dn_netgame.specs.{Texts.lines_of_rows, RowsShown.ListsWhole, Transfer.AppendsFront, declared.transfer.RunFault.TheVariants.Write}
 use Rattle.dn_netgame.proofs.RowPieces.{are_rows, rows_shown, front_behind}
 use Rattle.dn_netgame.proofs.rows.run_rows.Goals as goal
@@ -39,8 +39,7 @@ returns-in_err-put-clause-fails g c =
         fed.1,
         (
           c.in_ok-text.status,
-          rows_shown fed.0 c.in_ok-feed.feed fed.3.0 _ _ fed.2 fed.3.1
-              (c.in_ok-text.ensures.shown fed.0 fed.2),
+          rows_shown fed.0 c.in_ok-feed.feed fed.3.0 _ _ fed.2 fed.3.1 (c.in_ok-text.ensures.shown fed.0 fed.2),
         ),
       );
       written = front_behind _ _ _ _ _ fed.3.2 front;

@@ -1,5 +1,4 @@
-use Rattle.std.proofs.Common.{◌≡◌, ◌++◌, ◌∙◌, ap}
-use Rattle.std.specs.String.{string_bytes}
+use Rattle.std.proofs.Common.{◌≡◌, ◌++◌, ◌∙◌, ap, string_bytes}
 use Rattle.dn_demo.specs.Feeding.{told}
 use Rattle.dn_netgame.specs.Texts.{lines_of_rows}
 use Rattle.dn_netgame.proofs.RowPieces.{told_more}

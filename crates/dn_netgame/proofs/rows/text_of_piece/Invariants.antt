@@ -1,5 +1,4 @@
-use Rattle.std.proofs.Common.{◌≡◌, List, Option, length}
-use Rattle.std.specs.String.{string_bytes}
+use Rattle.std.proofs.Common.{◌≡◌, List, Option, length, string_bytes}
 use Rattle.dn_tic.specs.declared.command.Move.{Move}
 use Rattle.dn_world.specs.Plane.{walking}
 use Rattle.dn_demo.specs.Feeding.{TellsFront}

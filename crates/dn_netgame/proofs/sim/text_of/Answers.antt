@@ -1,5 +1,4 @@
-use Rattle.std.proofs.Common.{List, Ok, subst}
-use Rattle.std.specs.String.{string_bytes}
+use Rattle.std.proofs.Common.{List, Ok, subst, string_bytes}
 use Rattle.dn_machine.specs.declared.events.Event.{Event}
 use Rattle.dn_netgame.specs.SimShown.{ArePlayed}
 use Rattle.dn_netgame.proofs.sim.text_of.Goals as goal

@@ -1,6 +1,4 @@
-use Rattle.std.proofs.Common.{rules, ◌≡◌, ℕ, length, refl, subst}
-use Rattle.std.proofs.lemmas.Result.{IfOk-weaker}
-use Rattle.std.specs.String.{string_bytes}
+use Rattle.std.proofs.{Common.{rules, ◌≡◌, ℕ, length, refl, subst, string_bytes}, lemmas.Result.IfOk-weaker}
 use Rattle.dn_world.specs.Plane.{walking}
 use Rattle.dn_game.specs.{Observed.IsPlayedObserved, Opening.rules_in}
 use Rattle.dn_netgame.specs.SimShown.{ArePlayed}

@@ -1,7 +1,6 @@
 use Rattle.std.proofs.Common.{ℕ, List, refl, subst}
 use Rattle.dn_machine.specs.{Progress.good_rounds, Worlds.rules_of}
-use Rattle.dn_game.specs.Contents.{contents, Represents}
-use Rattle.dn_game.specs.Rounds.{rounds_events, pressed_by, IsUnsent, IsCutShort}
+use Rattle.dn_game.specs.{Contents.{contents, Represents}, Rounds.{rounds_events, pressed_by, IsUnsent, IsCutShort}}
 use Rattle.dn_world.specs.Plane.{walking}
 use Rattle.dn_netgame.proofs.storm.calm_down.Goals as goal
 
@@ -12,8 +11,7 @@ returns-in-Ok c players extra capacity m r =
     (good_rounds (rules_of walking players extra capacity) (λ round. pressed_by keys) c.args.calm m) in
     record {
       game = subst Calm c.no_keys.ensures ((c.in-Ok.ensures.good players extra capacity m r).0);
-      done =
-          refl;
+      done = refl;
       refused = refl;
     }
 

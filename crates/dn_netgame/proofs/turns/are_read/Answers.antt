@@ -1,5 +1,4 @@
-use Rattle.std.proofs.Common.{◌<◌, arith}
-use Rattle.std.proofs.lemmas.List.Elements.{All-from_get_or}
+use Rattle.std.proofs.{Common.{◌<◌, arith}, lemmas.List.Elements.All-from_get_or}
 use Rattle.dn_netgame.proofs.Turning.{read_and_told}
 use Rattle.dn_netgame.proofs.turns.are_read.Goals as goal
 

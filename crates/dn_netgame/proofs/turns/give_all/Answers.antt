@@ -1,5 +1,5 @@
-use Rattle.std.proofs.Common.{◌≡◌, ◌<◌, ◌+◌, ℕ, List, Some, None, Result, option_map, ap, sym, ◌∙◌, subst, arith}
-use Rattle.dn_netgame.specs.{Lines.Done, declared.line.LineFault.LineFault, declared.turns.Given.Given}
+use Rattle.std.proofs.Common.{◌≡◌, ◌<◌, ℕ, List, Some, None, Result, option_map, ap, sym, ◌∙◌, subst, arith}
+use Rattle.dn_netgame.specs.{Lines.Done, declared.{line.LineFault.LineFault}}
 use Rattle.dn_machine.specs.Worlds.{rules_within}
 use Rattle.dn_netgame.proofs.{Turning.{silent, spoken, IsCounted, giving, given_more, counted_once, count_more}, turns.give_all.Goals.{in-Ok, in-Err}}
 use Rattle.dn_netgame.proofs.turns.give_all.Goals as goal
@@ -23,8 +23,7 @@ loop-to-preserved-in_default g c =
             node = step.node;
             leads = given_more g.L.Line.sends (rules_within g.W.World.physics limits) me
                 c.loop-to.to None (giving m c.args.line.now (record { sent = 0; failed = 0 })) so_far.after
-                line line given given below so_far.leads
-                (silent g.L.Line.sends me c.loop-to.to _ line none)
+                line line given given below so_far.leads (silent g.L.Line.sends me c.loop-to.to _ line none)
                 (record { sent = omega arith; failed = omega arith });
           },
       c.packet.ensures.step.same ∙ before.4,
@@ -38,14 +37,8 @@ loop-to-preserved g c =
     let new = c.match-send.given in
     let By : Result Done LineFault → Type 0 = λ a. IsCounted (Some a) given new in
     let counted : By answer = elim c.match-send.branch [
-      | in-Ok w ↦
-          let s : new.sent ≡ given.sent + 1 = ap (λ (x : Given). x.sent) w.given-is in
-          let f : new.failed ≡ given.failed = ap (λ (x : Given). x.failed) w.given-is in
-          subst By (sym w.in-Ok.is) (record { sent = s; failed = omega (arith, f) })
-      | in-Err w ↦
-          let s : new.sent ≡ given.sent = ap (λ (x : Given). x.sent) w.given-is in
-          let f : new.failed ≡ given.failed + 1 = ap (λ (x : Given). x.failed) w.given-is in
-          subst By (sym w.in-Err.is) (record { sent = omega (arith, s); failed = f })
+      | in-Ok w ↦ grind arith
+      | in-Err w ↦ grind arith
     ] in (
       before.0,
       omega (arith, before.1, counted.sent, counted.failed, counted_once answer),

@@ -1,5 +1,5 @@
-use Rattle.std.proofs.Common.{◌≡◌, ◌<◌, ◌*◌, ℕ, Option, Some, None, Result, Ok, Err, refl, ap, ◌∙◌, subst, arith}
-use Rattle.dn_netgame.specs.{Lines.count_after, declared.line.Datagram.Datagram, declared.line.LineFault.LineFault, Turning.{IsHeard, most_polls}}
+use Rattle.std.proofs.Common.{◌<◌, Option, Some, Result, Ok, Err, refl, ap, ◌∙◌, arith}
+use Rattle.dn_netgame.specs.{Lines.count_after, declared.line.Datagram.Datagram, declared.line.LineFault.LineFault, Turning.{most_polls}}
 use Rattle.dn_machine.specs.Worlds.{rules_within}
 use Rattle.dn_netgame.proofs.Turning.{all_heard, heard_more, polled_as}
 use Rattle.dn_netgame.proofs.turns.hear_all.Goals as goal
@@ -46,25 +46,7 @@ loop-heard-preserved g c =
     )
 
 pub returns-clause-heard : goal.returns-clause-heard
-returns-clause-heard g c limits me m r =
-    let so_far = c.loop-heard.invariant.3 limits me m r in
-    let most = 10 * c.saturating_sub-most.result in
-    let is : most ≡ most_polls limits.players = c.loop-heard.invariant.1 ∙ ap most_polls r.lockstep.whose.players in
-    let end : c.loop-heard.heard ≡ most =
-    omega (arith, c.loop-heard-test.false, c.loop-heard.auto.heard-end) in
-    let Q : ℕ → Type 0 = λ k. IsHeard g.L.Line.polls (rules_within g.W.World.physics limits) me
-    (m, c.args.line.now) (so_far.after, c.loop-heard.line) k 0 in
-    record {
-      after = so_far.after;
-      node = so_far.node;
-      leads = subst Q end
-          (record {
-            between = c.loop-heard.line;
-            hears = so_far.leads;
-            ending = None;
-            ends = (end ∙ is, refl, refl);
-          });
-    }
+returns-clause-heard g c limits me m r = grind arith
 
 pub returns-in-Ok-None-clause-whose : goal.returns-in-Ok-None-clause-whose
 returns-in-Ok-None-clause-whose g c = c.loop-heard.invariant.4

@@ -1,7 +1,6 @@
 use Rattle.std.proofs.Common.{◌≡◌, sym, subst}
 use Rattle.dn_tic.specs.declared.input.Input.{Input}
-use Rattle.dn_machine.specs.declared.answers.Made.{Made}
-use Rattle.dn_machine.specs.Sending.{on_build}
+use Rattle.dn_machine.specs.{declared.answers.Made.Made, Sending.on_build}
 use Rattle.dn_node.specs.{Contents.contents, Steps.Steps}
 use Rattle.dn_netgame.proofs.turns.make.Goals as goal
 

@@ -30,11 +30,7 @@ returns-clause-rounds g c seats seated =
     let so_far = c.loop.invariant.2 seats seated in
     let P : ℕ → Type 0 = λ k. TakeRounds g.L.Line.sends g.L.Line.polls g.L.Line.failed g.W.World.physics
     c.args.seed (length c.args.nodes.now) k (seats, c.args.line.now) (so_far.after, c.loop.line) in
-    record {
-      after = so_far.after;
-      seated = so_far.seated;
-      leads = subst P (omega (arith, c.loop-test.false, c.loop.auto.counter-end)) so_far.leads;
-    }
+    grind arith
 
 pub returns-clause-whose : goal.returns-clause-whose
 returns-clause-whose g c = c.loop.invariant.3

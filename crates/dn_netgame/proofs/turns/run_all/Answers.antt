@@ -5,21 +5,7 @@ use Rattle.dn_netgame.proofs.Turning.{ran_more, ran_last, not_ran}
 use Rattle.dn_netgame.proofs.turns.run_all.Goals as goal
 
 pub loop-ran-preserved : goal.loop-ran-preserved
-loop-ran-preserved g c =
-    let before = c.loop-ran.invariant in
-    let one = c.run.ensures.further _ c.in-Ran.is in (
-      omega (arith, before.0, one),
-      λ limits me m r.
-          let so_far = before.1 limits me m r in
-          let step = c.run.ensures.step.step _ me so_far.after so_far.node in
-          record {
-            after = _;
-            node = step.node;
-            leads = ran_more (rules_within g.W.World.physics limits) m c.loop-ran.ran so_far.after
-                so_far.leads (ap is_ran (sym step.answer ∙ c.in-Ran.is));
-          },
-      c.run.ensures.step.same ∙ before.2,
-    )
+loop-ran-preserved g c = grind (arith, ran_more)
 
 pub returns-clause-run : goal.returns-clause-run
 returns-clause-run g c limits me m r =

@@ -1,9 +1,8 @@
-use Rattle.std.proofs.Common.{◌≡◌, ◌<◌, ◌+◌, ℕ, suc, length, refl, ap, ◌∙◌, subst, arith}
-use Rattle.std.proofs.lemmas.{List.length-set, Option.slice_get_read}
+use Rattle.std.proofs.{Common.{◌≡◌, ◌<◌, ◌+◌, ℕ, suc, length, refl, ap, ◌∙◌, subst, arith}, lemmas.List.length-set}
+use Rattle.std.proofs.lemmas.Option.{slice_get_read}
 use Rattle.dn_tic.specs.{declared.input.Input.Input, Inputs.input_of}
 use Rattle.dn_machine.specs.Node.{put}
-use Rattle.dn_node.specs.declared.node.Node.{Node}
-use Rattle.dn_node.specs.Contents.{contents, Represents}
+use Rattle.dn_node.specs.{declared.node.Node.Node, Contents.{contents, Represents}}
 use Rattle.dn_node.proofs.Stepping.{whose_set}
 use Rattle.dn_netgame.specs.Turning.{Seat, rules_at, TakeTurns, IsTurn}
 use Rattle.dn_netgame.proofs.Turning.{seated_with}
@@ -22,8 +21,7 @@ loop-place-preserved g c =
           let same : length nodes ≡ length nodes = refl in
           let Shown : Node _ → Type 0 = λ n. Represents g.W.World.state (rules_at g.W.World.physics seat)
           seat.me (contents n) seat.node in
-          let shown = subst Shown c.index-nodes-place.is
-          (so_far.seated place c.index-nodes-place.result
+          let shown = subst Shown c.index-nodes-place.is (so_far.seated place c.index-nodes-place.result
           (slice_get_read nodes (length nodes) place c.index-nodes-place.result same below
           c.index-nodes-place.is)) in
           let mine : c.me.result ≡ seat.me = c.me.ensures.number ∙ shown.lockstep.whose.number in
@@ -54,8 +52,7 @@ loop-place-preserved g c =
               },
             );
           },
-      whose_set nodes place c.index-nodes-place.result c.turn_with.new.node c.turn_with.ensures.whose
-          ∙ before.2,
+      whose_set nodes place c.index-nodes-place.result c.turn_with.new.node c.turn_with.ensures.whose ∙ before.2,
     )
 
 pub returns-clause-turns : goal.returns-clause-turns
@@ -64,12 +61,7 @@ returns-clause-turns g c =
     let so_far = c.loop-place.invariant.1 by of seats seated in
     let P : ℕ → Type 0 = λ k. TakeTurns g.L.Line.sends g.L.Line.polls g.L.Line.failed g.W.World.physics
     by k (seats, c.args.line.now) (so_far.after, c.loop-place.line) in
-    record {
-      after = so_far.after;
-      seated = so_far.seated;
-      leads =
-          subst P (omega (arith, c.loop-place-test.false, c.loop-place.auto.place-end)) so_far.leads;
-    }
+    grind arith
 
 pub returns-clause-whose : goal.returns-clause-whose
 returns-clause-whose g c = c.loop-place.invariant.2

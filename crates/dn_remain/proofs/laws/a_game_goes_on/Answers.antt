@@ -1,11 +1,7 @@
 -- The events lead there.
 use Rattle.std.proofs.Common.{refl, arith}
-use Rattle.dn_machine.specs.Sending.{on_build_by, on_send}
-use Rattle.dn_machine.specs.Hearing.{on_packet}
-use Rattle.dn_machine.specs.Game.{applied, opening_game}
-use Rattle.dn_machine.specs.Limits.{row_of}
-use Rattle.dn_machine.specs.Node.{lowest}
-use Rattle.dn_machine.specs.Sparing.{on_run_but}
+use Rattle.dn_machine.specs.{Sending.{on_build_by, on_send}, Hearing.on_packet, Game.{applied, opening_game}}
+use Rattle.dn_machine.specs.{Limits.row_of, Node.lowest, Sparing.on_run_but}
 use Rattle.dn_remain.specs.{Vanished.Calls.every, Vanished.Commands.longest, Remaining.opening_remaining, Wary.rows_to, Wary.on_give_up, Wary.on_report}
 use Rattle.dn_remain.proofs.Example.{after_own, after, after_all, goes_on, last, reaches}
 use Rattle.dn_remain.proofs.laws.a_game_goes_on.Goals as goal

@@ -1,23 +1,19 @@
 -- Three players in a window of seven: one runs by the commands of another, whose marks tell of another world.
-use Rattle.std.proofs.Common.{◌≡◌, ℕ, refl, ◌∙◌, ap, arith, List, [], ◌∷◌, ◌++◌, get_or, take}
-use Rattle.std.specs.Prelude.{true, false, Option, None}
-use Rattle.std.proofs.lemmas.List.{length_push, get_or_append_left, get_or_push}
-use Rattle.dn_tic.specs.{declared.command.TicCmd.TicCmd, declared.command.Move.Move}
+use Rattle.std.proofs.Common.{◌≡◌, ℕ, refl, ◌∙◌, ap, arith, List, [], ◌∷◌, ◌++◌, get_or, take, true, false, Option}
+use Rattle.std.proofs.{Common.None, lemmas.List.{length_push, get_or_append_left, get_or_push}}
+use Rattle.dn_tic.specs.declared.command.{TicCmd.TicCmd, Move.Move}
 use Rattle.dn_tic.proofs.Making.{made_by-mark}
 use Rattle.dn_setup.specs.Settings.{Settings}
 use Rattle.dn_world.specs.Physics.{Physics}
 use Rattle.dn_machine.specs.{declared.answers.Phase.TheVariants.Playing, declared.answers.Ran.Ran, declared.events.Refusal.Refusal, Game.with_node, Game.own_marks, Game.refused_at, Game.applied, Game.opening_game}
-use Rattle.dn_machine.specs.Sending.{on_build_by, on_send}
-use Rattle.dn_machine.specs.Hearing.{on_packet}
-use Rattle.dn_machine.specs.Limits.{Limits, row_of}
-use Rattle.dn_machine.specs.Node.{Node, got, ran, held_at, lacks, lowest}
-use Rattle.dn_machine.specs.Worlds.{Rules, rules_within}
+use Rattle.dn_machine.specs.{Sending.{on_build_by, on_send}, Hearing.on_packet, Limits.{Limits, row_of}}
+use Rattle.dn_machine.specs.{Node.{Node, got, ran, held_at, lacks, lowest}, Worlds.{Rules, rules_within}}
 use Rattle.dn_machine.specs.{Worlds.world_after, declared.events.Event.TheVariants.Build, declared.events.Event.TheVariants.Send, declared.events.Event.TheVariants.Deliver, declared.events.Event.TheVariants.Run}
 use Rattle.dn_machine.specs.{Running.tic_limit, Running.full_at, Running.is_awaited, Running.row_held, Sparing.first_off_but, Sparing.on_run_but}
 use Rattle.dn_machine.proofs.Calls.{ran_on}
 use Rattle.dn_remain.specs.{Vanished.Calls.every, Vanished.Commands.Holder, Vanished.Commands.longest, Wary.rows_to, Wary.on_give_up, Wary.on_report, Remaining.Remaining, Remaining.opening_remaining}
 use Rattle.dn_remain.specs.{Remaining.after_run, Remaining.after_event, Remaining.NextRemain, Remaining.LeadsRemain, Remaining.RunsRemain, Promise.AgreeInPairs, declared.events.RemainEvent.RemainEvent}
-use Rattle.dn_remain.specs.{declared.events.RemainEvent.TheVariants.Own, declared.events.RemainEvent.TheVariants.GiveUp}
+use Rattle.dn_remain.specs.declared.events.RemainEvent.TheVariants.{Own, GiveUp}
 use Rattle.dn_remain.proofs.{Each.runs_tic, Checks.none_off, Example.after_own, Example.after_all, Example.after, Example.leads_to, Followed.anchored, Promises.pairs_agree, Reached.IsReached, Reached.reached_by}
 use Rattle.dn_remain.proofs.Known
 use Rattle.dn_remain.proofs.laws.a_wide_game_goes_on.Goals as goal
@@ -112,8 +108,7 @@ module _ {S : Type 0} (physics : Physics S) (settings : Settings) where
       let a = is_there.ran_it in
       let b = is_there.full in
       ap (λ (o : Option Refusal). after_run (rules_within physics sevens) there 1 o) is_there.goes
-      ∙ ap (λ (r : Node × Ran). with_node there.game 1 r.0)
-      (runs_tic sevens 1 (there.gone 1) (there.game.nodes 1)
+      ∙ ap (λ (r : Node × Ran). with_node there.game 1 r.0) (runs_tic sevens 1 (there.gone 1) (there.game.nodes 1)
       (own_marks (rules_within physics sevens) (there.game.nodes 1)) is_there.plays is_there.nobody none
       (λ e. absurd (omega arith)))
 
@@ -146,8 +141,7 @@ module _ {S : Type 0} (physics : Physics S) (settings : Settings) where
         is_there.with_two,
         ap (λ (row : List (Option Move)). lacks row 2)
             (get_or_append_left (there.game.nodes 1).rows (row_held sevens (there.game.nodes 1) ∷ []) [] 0
-            (omega arith))
-            ∙ is_there.without,
+            (omega arith)) ∙ is_there.without,
         ap (λ (c : TicCmd). c.mark) (agreed.held 1 0 0 13 (omega arith) (omega arith)
             ∙ agreed.own 0 13 (omega arith) (omega arith) (omega arith))
             ∙ made_by-mark (take 14 (there.game.nodes 0).inputs) _,

@@ -1,6 +1,5 @@
 -- Which marks a run compares.
-use Rattle.std.proofs.Common.{◌≡◌, ℕ, ℤ, ◌<◌, ◌∙◌, ap, arith, inl, inr, ltb}
-use Rattle.std.specs.Prelude.{Bool, true, false, not, Some, None}
+use Rattle.std.proofs.Common.{◌≡◌, ℕ, ℤ, ◌<◌, ◌∙◌, ap, arith, inl, inr, ltb, Bool, true, false, not, Some, None}
 use Rattle.std.proofs.lemmas.Bool.{both_ways, and_from, and_parts, cond-true, lt-ltb, not-true}
 use Rattle.dn_machine.specs.{declared.answers.Phase.TheVariants.Playing, declared.answers.Ran.TheVariants.Inconsistent, Limits.Limits, Node.Node, Node.held_at, Node.own_mark, Node.lowest, Node.ran, Running.is_awaited}
 use Rattle.dn_machine.specs.{Running.is_off, Sparing.is_off_but, Sparing.first_off_but, Sparing.on_run_but}
@@ -23,8 +22,7 @@ module _ (limits : Limits) (gone : ℕ → Bool) (node : Node) (marks : ℕ → 
 
   ends : (player : ℕ) → node.phase ≡ Playing → lowest limits.players (is_awaited node) ≡ None
       → 12 < ran node → player < limits.players → gone player ≡ false → is_off node player ≡ true
-      → (off : ℕ) × (was : ℤ) × (should : ℤ) × ((on_run_but limits gone node marks).1 ≡ Inconsistent off was
-      should)
+      → (off : ℕ) × (was : ℤ) × (should : ℤ) × ((on_run_but limits gone node marks).1 ≡ Inconsistent off was should)
   ends player plays nobody late low here off = elim (cases_Option (lowest limits.players
       (is_off_but gone node))) [
         | inl none ↦ absurd (both_ways (is_off_but gone node player)
@@ -38,8 +36,7 @@ module _ (limits : Limits) (gone : ℕ → Bool) (node : Node) (marks : ℕ → 
         )
       ]
 
-  spared : (player : ℕ) (was should : ℤ)
-      → (on_run_but limits gone node marks).1 ≡ Inconsistent player was should
+  spared : (player : ℕ) (was should : ℤ) → (on_run_but limits gone node marks).1 ≡ Inconsistent player was should
       → (gone player ≡ false) × (is_off node player ≡ true)
   spared player was should h = grind (arith, and_parts, lowest_passes, found, not-true)
 

@@ -1,6 +1,4 @@
-use Rattle.std.proofs.Common.{◌≡◌, ℕ, List, refl, subst, ◌∙◌, Result, Ok, Err, Bool, true, false}
-use Rattle.std.specs.Prelude.{◌&&◌}
-use Rattle.std.specs.Str.{bytes_eq}
+use Rattle.std.proofs.Common.{◌≡◌, ℕ, List, refl, subst, ◌∙◌, Result, Ok, Err, Bool, true, false, arith}
 use Rattle.dn_session.specs.{Hosting.Lobby, Hosting.on_call, declared.greeting.Address.Address, declared.greeting.Call.Call, declared.greeting.GreetingFault.GreetingFault}
 use Rattle.dn_session.specs.{Joining.Joining, Joining.is_heard, Session.HearsReply}
 use Rattle.dn_session.specs.declared.joiner.Stage.TheVariants as stage
@@ -19,11 +17,7 @@ returns-clause-host c = λ from bytes now old new reply begun hears. hears.2 ∙
 
 -- whose game has begun hears nobody
 deaf : (from : Address) (old : Joining) → old.stage ≡ stage.Playing → is_heard from old ≡ false
-deaf from old is = rw is (both_ways (bytes_eq from.bytes old.config.host.bytes))
-  where
-    both_ways : (test : Bool) → (test && false) ≡ false
-    both_ways true = refl
-    both_ways false = refl
+deaf from old is = grind arith
 
 pub returns-clause-joiner : goal.returns-clause-joiner
 returns-clause-joiner c = λ from bytes now old new is hears.

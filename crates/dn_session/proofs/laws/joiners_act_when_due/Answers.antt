@@ -1,32 +1,21 @@
-use Rattle.std.proofs.Common.{◌≡◌, ℕ, List, refl, ap, sym, subst, ◌∙◌, Option, Some, None, inl, inr, Bool, true, false}
-use Rattle.std.proofs.{lemmas.Bool.and_parts, lemmas.Bool.both_ways, lemmas.Bool.cases_Bool, lemmas.Bool.or_cases, lemmas.Option.none-some}
+use Rattle.std.proofs.Common.{◌≡◌, ℕ, refl, ap, subst, ◌∙◌, Option, None, inl, inr, Bool, true, false, arith}
+use Rattle.std.proofs.{lemmas.Bool.and_parts, lemmas.Bool.both_ways, lemmas.Bool.or_cases}
 use Rattle.std.specs.Prelude.{◌&&◌, ◌||◌}
 use Rattle.dn_session.specs.Joining.{Joining, calling_again, calls_if_due, calls_on, counts_on_host, given_up_by, has_passed, is_due, is_hint_over}
 use Rattle.dn_session.specs.{declared.greeting.Hint.Hint, declared.joiner.Stage.Stage}
-use Rattle.dn_session.specs.declared.joiner.Stage.TheVariants as stage
 use Rattle.dn_session.proofs.laws.joiners_act_when_due.Goals as goal
 
 neither : (a b : Bool) → (a || b) ≡ false → (a ≡ false) × (b ≡ false)
-neither false b e = (refl, e)
-neither true b e = absurd (cc)
+neither a b e = grind arith
 
 -- without a hint that ends it, and without a silence, it stays where it is
 unended : (now : ℕ) (hint : Option (Hint × ℕ)) (j : Joining) → (calls_on j.stage && is_hint_over now hint) ≡ false
     → given_up_by now hint j ≡ j
-unended now None j none = refl
-unended now (Some hinted) j none = rw none refl
+unended now hint j none = grind arith
 
 still : (now : ℕ) (j : Joining) (s : Stage) → j.stage ≡ s → (counts_on_host s && has_passed now j.heard 10000) ≡ false
     → calling_again now j ≡ j
-still now j stage.Calling is none = elim (cases_Bool (has_passed now j.heard 10000)) [
-  | inl passed ↦ rw (is, passed) refl
-  | inr soon ↦ rw (is, soon) refl
-]
-still now j stage.Waiting is none = rw (is, none) refl
-still now j stage.Seated is none = rw (is, none) refl
-still now j stage.Playing is none = rw is refl
-still now j (stage.Refused why) is none = rw is refl
-still now j (stage.Hinted hint) is none = rw is refl
+still now j s is none = grind arith
 
 pub returns-clause-before : goal.returns-clause-before
 returns-clause-before c = λ now j idle.
@@ -39,35 +28,20 @@ returns-clause-before c = λ now j idle.
 
 -- where nothing is sent, and nothing has changed, no call was due
 uncalled : (now : ℕ) (j next : Joining) → calls_if_due now next ≡ (j, None) → (is_due now next ≡ false) × (next ≡ j)
-uncalled now j next e = elim (cases_Bool (is_due now next)) [
-  | inl due ↦
-      let sent = ap (λ (after : Joining × Option (List ℕ)). after.1) (rw due at e) in
-      absurd (none-some _ (sym sent))
-  | inr idle ↦ (idle, ap (λ (after : Joining × Option (List ℕ)). after.0) (rw idle at e))
-]
+uncalled now j next e = grind arith
 
 -- who is ended by a hint calls no more
 ended : (now : ℕ) (hint : Option (Hint × ℕ)) (j : Joining) → calls_on j.stage ≡ true → is_hint_over now hint ≡ true
     → calls_on (calling_again now (given_up_by now hint j)).stage ≡ false
-ended now None j calls over = absurd (cc)
-ended now (Some hinted) j calls over = rw (calls, over) refl
+ended now hint j calls over = grind arith
 
 -- who heard nothing for so long counts on nothing
 quiet : (now : ℕ) (j : Joining) (s : Stage) → j.stage ≡ s → has_passed now j.heard 10000 ≡ true
     → counts_on_host (calling_again now j).stage ≡ false
-quiet now j stage.Calling is passed = rw (is, passed) refl
-quiet now j stage.Waiting is passed = rw (is, passed) refl
-quiet now j stage.Seated is passed = rw (is, passed) refl
-quiet now j stage.Playing is passed = rw is refl
-quiet now j (stage.Refused why) is passed = rw is refl
-quiet now j (stage.Hinted hint) is passed = rw is refl
+quiet now j s is passed = grind arith
 
 as_heard : (now : ℕ) (hint : Option (Hint × ℕ)) (j : Joining) → (given_up_by now hint j).heard ≡ j.heard
-as_heard now None j = refl
-as_heard now (Some hinted) j = elim (cases_Bool (calls_on j.stage && has_passed now hinted.1 3000)) [
-  | inl over ↦ rw over refl
-  | inr soon ↦ rw soon refl
-]
+as_heard now hint j = grind arith
 
 pub returns-clause-after : goal.returns-clause-after
 returns-clause-after c = λ now j acts e.

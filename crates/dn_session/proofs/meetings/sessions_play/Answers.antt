@@ -1,27 +1,12 @@
-use Rattle.std.proofs.Common.{◌≡◌, None, refl, sym, subst, ◌∙◌, inl, inr}
-use Rattle.std.specs.Prelude.{nat_le}
-use Rattle.std.proofs.lemmas.Bool.{and_parts, cases_Bool, leb-true}
-use Rattle.std.proofs.lemmas.Option.{none-some}
+use Rattle.std.proofs.Common.{◌≡◌, None, sym, subst, arith}
 use Rattle.dn_lockstep.specs.{Opening.CanBeAhead, Opening.IsGame}
-use Rattle.dn_session.specs.declared.terms.LobbyFault.TheVariants as fault
-use Rattle.dn_session.specs.{Parts.limits_of, Parts.links_of, Session.config_for, Terms.IsTerms, Terms.is_ahead, Terms.is_count, Terms.terms_fault, declared.terms.Terms.Terms}
+use Rattle.dn_session.specs.{Parts.limits_of, Parts.links_of, Session.config_for, Terms.IsTerms, Terms.terms_fault, declared.terms.Terms.Terms}
 use Rattle.dn_session.proofs.{NewLinks.one_place, NewLinks.place_link, Rosters.fixed, Rosters.ones_game}
 use Rattle.dn_session.proofs.meetings.sessions_play.Goals as goal
 
 -- terms without a fault are of a game that a lockstep can have
 can_be : (terms : Terms) → terms_fault terms ≡ None → IsGame terms.players × CanBeAhead terms.ahead
-can_be terms none = elim (cases_Bool (is_count terms.players)) [
-  | inr wrong ↦ absurd (none-some fault.Players (sym none ∙ rw wrong refl))
-  | inl game ↦ elim (cases_Bool (is_ahead terms.ahead)) [
-    | inr wrong ↦ absurd (none-some fault.Ahead (sym none ∙ rw (game, wrong) refl))
-    | inl ahead ↦
-        let a = and_parts (nat_le 2 terms.players) (nat_le terms.players 4) game in
-        let b = and_parts (nat_le 1 terms.ahead) (nat_le terms.ahead 12) ahead in (
-          (leb-true 2 terms.players a.0, leb-true terms.players 4 a.1),
-          (leb-true 1 terms.ahead b.0, leb-true terms.ahead 12 b.1),
-        )
-  ]
-]
+can_be terms none = grind arith
 
 pub returns-clause-place : goal.returns-clause-place
 returns-clause-place c = one_place

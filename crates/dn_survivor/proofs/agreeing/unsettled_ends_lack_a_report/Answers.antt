@@ -1,12 +1,10 @@
 -- Whose end is not settled, in a game of survivors.
-use Rattle.std.proofs.Common.{◌≡◌, ◌<◌, ℕ, true, false, refl, ap, sym, ◌∙◌, arith, inl, inr, Some, None}
-use Rattle.std.specs.Prelude.{slice_get}
-use Rattle.std.proofs.lemmas.Bool.{cases_Bool, cond-false, ne_eqb}
-use Rattle.std.proofs.lemmas.Option.{none-some}
+use Rattle.std.proofs.Common.{◌≡◌, ◌<◌, ℕ, true, false, refl, ap, sym, ◌∙◌, arith, inl, inr, Some, None, slice_get}
+use Rattle.std.proofs.lemmas.{Bool.{cases_Bool, cond-false, ne_eqb}, Option.none-some}
 use Rattle.dn_setup.specs.Settings.{Settings}
-use Rattle.dn_machine.specs.{Limits.Limits, Node.ends_of, Node.lowest}
+use Rattle.dn_machine.specs.{Limits.Limits, Node.{ends_of, lowest}}
 use Rattle.dn_lockstep.specs.Marking.{Marking}
-use Rattle.dn_remain.specs.{Remaining.wary_of, Wary.end_seen, Wary.reached, Wary.Wary, Wary.can_settle, Wary.on_give_up, Wary.on_report}
+use Rattle.dn_remain.specs.{Remaining.wary_of, Wary.{end_seen, reached, Wary, can_settle, on_give_up, on_report}}
 use Rattle.dn_remain.proofs.Seeing.{reached_some}
 use Rattle.dn_survivor.specs.{Calls.GivesUp, Calls.HearsReport, Calls.undecided_in, Calls.unsettled_in, OneGame.AreRemaining, Represents.Represents, Represents.given_up_is, Represents.reported_is, OneGame.Given}
 use Rattle.dn_survivor.specs.{OneGame.Session, Surviving.Surviving, Surviving.is_unsettled, declared.answers.GivenUp.GivenUp, declared.answers.Reported.Reported}
@@ -37,15 +35,13 @@ told_is : (answer : remain_reported.Reported) → Reported.Decided ≡ reported_
 told_is answer e = grind (arith, e)
 
 -- an end behind all commands is seen
-seen_at : (m : machine.Node) (p : ℕ) → ends_of m p ≡ Some (machine.got m p)
-    → end_seen m p ≡ Some (machine.got m p)
+seen_at : (m : machine.Node) (p : ℕ) → ends_of m p ≡ Some (machine.got m p) → end_seen m p ≡ Some (machine.got m p)
 seen_at m p is = ap (reached (machine.got m p)) is ∙ reached_some (machine.got m p) (machine.got m p) (omega arith)
 
 module _ (marking : Marking) (limits : Limits) (settings : Settings) (session : Session) where
   -- who has an end that is not settled lacks a report
   lacks : (q p : ℕ) (game : AreRemaining marking limits settings session) → q < limits.players
-      → unsettled_in (session.survivors q) ≡ Some p
-      → (r : ℕ) × (undecided_in (session.survivors q) ≡ Some r)
+      → unsettled_in (session.survivors q) ≡ Some p → (r : ℕ) × (undecided_in (session.survivors q) ≡ Some r)
   lacks q p game mine is = elim (cases_Bool (can_settle limits q (wary_of game.last q))) [
     | inr cannot ↦
         let k = answering.missing limits q (wary_of game.last q) (wary_of game.last q) refl cannot in

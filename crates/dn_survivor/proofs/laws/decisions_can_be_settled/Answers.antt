@@ -6,8 +6,7 @@ use Rattle.dn_survivor.proofs.laws.decisions_can_be_settled.Goals as goal
 pub returns-clause-given_up : goal.returns-clause-given_up
 returns-clause-given_up g c limits settings events all q player window runs mine low apart phase can =
     gone_can (rules_within g.W.World.physics limits) settings window _ all
-    (as_relayed (rules_within g.W.World.physics limits) settings events all runs) q player mine low apart phase
-    can
+    (as_relayed (rules_within g.W.World.physics limits) settings events all runs) q player mine low apart phase can
 
 pub returns-clause-heard : goal.returns-clause-heard
 returns-clause-heard g c limits settings events all which t window runs at phase can =

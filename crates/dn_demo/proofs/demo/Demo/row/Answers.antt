@@ -1,5 +1,4 @@
-use Rattle.std.proofs.Common.{◌<◌, ◌∙◌, length, Some, sym, ap, arith}
-use Rattle.std.proofs.lemmas.Option.{slice_get_past}
+use Rattle.std.proofs.{Common.{◌<◌, ◌∙◌, length, Some, sym, ap, arith}, lemmas.Option.slice_get_past}
 use Rattle.dn_demo.specs.Layout.{layout_of}
 use Rattle.dn_demo.proofs.Fronts.{row_kept}
 use Rattle.dn_demo.proofs.demo.Demo.row.Goals as goal

@@ -1,5 +1,4 @@
-use Rattle.std.proofs.Common.{◌∷◌, get_or, sym, ap, ◌∙◌}
-use Rattle.std.proofs.lemmas.List.{take_rest}
+use Rattle.std.proofs.{Common.{◌∷◌, get_or, sym, ap, ◌∙◌}, lemmas.List.take_rest}
 use Rattle.dn_demo.proofs.FeedKept.{front_more, front_byte, first_byte}
 use Rattle.dn_demo.proofs.feed.Feed.advance.Goals as goal
 
@@ -12,5 +11,4 @@ returns-then-self-clause-front g c =
 
 pub returns-clause-front : goal.returns-clause-front
 returns-clause-front g c =
-    front_more g.W.World.state g.W.World.physics _ _ _ _ _ _ c.take_rows-rest.ensures.front
-    c.take_row.ensures.front
+    front_more g.W.World.state g.W.World.physics _ _ _ _ _ _ c.take_rows-rest.ensures.front c.take_row.ensures.front

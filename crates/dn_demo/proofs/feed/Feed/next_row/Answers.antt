@@ -7,8 +7,7 @@ returns-in-Some-take_byte-clause-rows g c =
     let split : c.loop-byte.rest.now ≡ c.in-Some.byte.now ∷ c.in-Some.behind.now = search rules in
     tells_more g.W.World.state g.W.World.physics _ _ _ _ _ _ [] (c.in-Some-take_byte.row ∷ [])
     c.loop-byte.invariant.0
-    (tells_byte g.W.World.state g.W.World.physics _ _ _ _ c.in-Some.byte.now (c.in-Some-take_byte.row ∷ [])
-    split
+    (tells_byte g.W.World.state g.W.World.physics _ _ _ _ c.in-Some.byte.now (c.in-Some-take_byte.row ∷ []) split
     c.in-Some-take_byte.ensures.count c.in-Some-take_byte.ensures.shown c.in-Some-take_byte.ensures.listed)
 
 pub loop-byte-preserved : goal.loop-byte-preserved

@@ -17,6 +17,5 @@ returns-in_default-clause-listed g c =
 pub returns-clause-listed : goal.returns-clause-listed
 returns-clause-listed g c =
     let long : 13 ≤ c.args.self.now.taken = search rules in
-    lists_ended g.W.World.state g.W.World.physics (layout_of c.in-Some.layout) _ _ c.args.byte
-    c.take_command.result
+    lists_ended g.W.World.state g.W.World.physics (layout_of c.in-Some.layout) _ _ c.args.byte c.take_command.result
     c.in-Some.ensures.some long c.take_command.ensures.tics c.take_command.ensures.row

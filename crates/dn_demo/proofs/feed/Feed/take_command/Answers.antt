@@ -4,8 +4,7 @@ use Rattle.dn_demo.proofs.feed.Feed.take_command.Goals as goal
 pub returns-then-is_marker-clause-shown : goal.returns-then-is_marker-clause-shown
 returns-then-is_marker-clause-shown g c =
     marker_taken g.W.World.state g.W.World.physics _ _ _ c.self.view_is c.self.told c.self.invariant
-    c.args.layout c.requires.header c.requires.unmarked c.args.byte
-    (c.is_marker.ensures.yes c.if-is_marker.true)
+    c.args.layout c.requires.header c.requires.unmarked c.args.byte (c.is_marker.ensures.yes c.if-is_marker.true)
 
 pub bounds-self-inside-self-inside : goal.bounds-self-inside-self-inside
 bounds-self-inside-self-inside g c =

@@ -7,8 +7,7 @@ pub returns-then-is_some-clause-shown : goal.returns-then-is_some-clause-shown
 returns-then-is_some-clause-shown g c =
     header_taken g.W.World.state g.W.World.physics _ _ _ c.self.view_is c.self.told.0 c.args.byte
     c.begin.new.self c.self.invariant.1 (search rules)
-    (λ layout h. c.begin.ensures
-    ∙ (λ i. g.W.World.physics.begin (c.start.ensures i) (c.seats-present.ensures i)))
+    (λ layout h. c.begin.ensures ∙ (λ i. g.W.World.physics.begin (c.start.ensures i) (c.seats-present.ensures i)))
 
 pub returns-else-is_some-clause-shown : goal.returns-else-is_some-clause-shown
 returns-else-is_some-clause-shown g c =

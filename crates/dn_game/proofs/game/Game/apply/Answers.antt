@@ -29,8 +29,7 @@ pub returns-in-Deliver-clause-leads : goal.returns-in-Deliver-clause-leads
 returns-in-Deliver-clause-leads g c = leads_on _ _ _ _ _ _ (λ players extra capacity m r.
     let told = c.in_default.ensures.told players extra capacity m r in
     inl (after_event _ (rules_of g.W.World.physics players extra capacity) _ m _ _ c.in-Deliver.is _ told
-    (c.deliver.ensures.heard players extra capacity m r
-    (sym (told ∙ ap (refused players m) c.in-Deliver.is)))))
+    (c.deliver.ensures.heard players extra capacity m r (sym (told ∙ ap (refused players m) c.in-Deliver.is)))))
 
 pub returns-in-Run-clause-leads : goal.returns-in-Run-clause-leads
 returns-in-Run-clause-leads g c =
@@ -51,33 +50,17 @@ returns-in-Stop-clause-leads g c =
     inl (after_event _ (rules_of g.W.World.physics players extra capacity) _ m _ _ c.in-Stop.is _
     (c.in_default.ensures.told players extra capacity m r) (stops _ _ _ m _ r (omega (arith, below, n.few)))))
 
-pub returns-in-Some-clause-whose : goal.returns-in-Some-clause-whose
-returns-in-Some-clause-whose g c = refl
-
-pub returns-in-Send-clause-whose : goal.returns-in-Send-clause-whose
-returns-in-Send-clause-whose g c = c.send.ensures.whose
-
 pub returns-in-Build-clause-whose : goal.returns-in-Build-clause-whose
-returns-in-Build-clause-whose g c =
-    whose_step _ _ _ _ c.index_mut.ensures.value c.build.ensures.step.same
+returns-in-Build-clause-whose g c = whose_step _ _ _ _ c.index_mut.ensures.value c.build.ensures.step.same
 
 pub returns-in-Give-clause-whose : goal.returns-in-Give-clause-whose
-returns-in-Give-clause-whose g c =
-    whose_step _ _ _ _ c.index_mut-in-Give.ensures.value c.give.ensures.step.same
-
-pub returns-in-Deliver-clause-whose : goal.returns-in-Deliver-clause-whose
-returns-in-Deliver-clause-whose g c = c.deliver.ensures.whose
+returns-in-Give-clause-whose g c = whose_step _ _ _ _ c.index_mut-in-Give.ensures.value c.give.ensures.step.same
 
 pub returns-in-Run-clause-whose : goal.returns-in-Run-clause-whose
-returns-in-Run-clause-whose g c =
-    whose_step _ _ _ _ c.index_mut-in-Run.ensures.value c.run.ensures.step.same
+returns-in-Run-clause-whose g c = whose_step _ _ _ _ c.index_mut-in-Run.ensures.value c.run.ensures.step.same
 
 pub returns-in-Quit-clause-whose : goal.returns-in-Quit-clause-whose
-returns-in-Quit-clause-whose g c =
-    whose_step _ _ _ _ c.index_mut-in-Quit.ensures.value c.quit.ensures.step.same
-
-pub returns-in-Stop-clause-whose : goal.returns-in-Stop-clause-whose
-returns-in-Stop-clause-whose g c = refl
+returns-in-Quit-clause-whose g c = whose_step _ _ _ _ c.index_mut-in-Quit.ensures.value c.quit.ensures.step.same
 
 pub returns-in-Some-clause-rest : goal.returns-in-Some-clause-rest
 returns-in-Some-clause-rest g c = rest_all _ _ _ _ refl refl

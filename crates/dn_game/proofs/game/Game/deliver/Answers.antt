@@ -1,6 +1,5 @@
 -- A packet comes to its receiver.
-use Rattle.std.proofs.Common.{◌≡◌, ◌<◌, ℕ, Bool, None, List, length, set, Some, refl, ap, sym, ◌∙◌, subst, arith}
-use Rattle.std.specs.{Prelude.{slice_get, slice_index_or}, Option.option_map}
+use Rattle.std.proofs.Common.{◌≡◌, ◌<◌, ℕ, Bool, None, List, length, set, Some, refl, ap, sym, ◌∙◌, subst, arith, slice_get, slice_index_or, option_map}
 use Rattle.dn_world.specs.Physics.{Physics}
 use Rattle.dn_machine.specs.{declared.answers.Heard.Heard, declared.events.Done.Done, Flight.{packet_of, is_near}, Game.{delivered, refused_flight}, Hearing.on_packet, Node.made, Worlds.{Rules, rules_of}}
 use Rattle.dn_node.specs.{declared.node.Node.Node, Steps.HearsNear}
@@ -25,9 +24,7 @@ delivers_to {W} {S} state rules g m which flight to n heard r there is below aft
       machine.with_node m k (on_packet rules.limits k (m.nodes k) flight).0,
       Done.Heard (on_packet rules.limits k (m.nodes k) flight).1,
     ) (Done.Heard heard) in
-    rw there
-    (subst P is
-    (record {
+    rw there (subst P is (record {
       game = places state rules g m to n _ r below after.node;
       answered = ap Done.Heard after.answer;
     }))
@@ -35,8 +32,7 @@ delivers_to {W} {S} state rules g m which flight to n heard r there is below aft
 delivers : {W S : Type 0} (state : W → S) (physics : Physics S) (players : ℕ) (extra : Bool)
     (capacity : ℕ) (g : Contents W) (m : machine.Game)
     (r : Represents state (rules_of physics players extra capacity) g m) (which : ℕ) (entry : Record)
-    → which < length g.flights
-    → ((f : Flight) → slice_get g.flights which ≡ Some f → IsRecordOf f entry)
+    → which < length g.flights → ((f : Flight) → slice_get g.flights which ≡ Some f → IsRecordOf f entry)
     → refused_flight m (slice_get m.flights which) ≡ None
     → (to : ℕ) (old new : Node W) (bytes : List ℕ) (heard : Heard) → to ≡ entry.to
     → old ≡ slice_index_or g.nodes to old
@@ -73,8 +69,7 @@ index_mut-requires g c =
 pub returns-clause-heard : goal.returns-clause-heard
 returns-clause-heard g c players extra capacity m r free =
     delivers _ _ players extra capacity _ m r _ _ c.requires c.record-flight.ensures free _ _ _ _ _
-    c.from.ensures c.index_mut.ensures.value
-    c.datagram.ensures.bytes c.receive.ensures.near
+    c.from.ensures c.index_mut.ensures.value c.datagram.ensures.bytes c.receive.ensures.near
 
 pub returns-clause-whose : goal.returns-clause-whose
 returns-clause-whose g c = whose_step _ _ _ _ c.index_mut.ensures.value c.receive.ensures.any.same
@@ -86,5 +81,4 @@ returns-clause-others g c i apart =
     others_step _ _ _ _ (ap (option_map (λ (flight : Flight). flight.to)) at.1 ∙ ap Some (sym to)) i apart
 
 pub returns-clause-worlds : goal.returns-clause-worlds
-returns-clause-worlds g c quiet =
-    worlds_step _ _ _ _ c.index_mut.ensures.value (c.receive.ensures.world quiet)
+returns-clause-worlds g c quiet = worlds_step _ _ _ _ c.index_mut.ensures.value (c.receive.ensures.world quiet)

@@ -51,8 +51,4 @@ returns-clause-good g c players extra capacity m r =
     rw all at (c.loop-node.invariant.0 players extra capacity m r)
 
 pub returns-in_err-turn-clause-continues : goal.returns-in_err-turn-clause-continues
-returns-in_err-turn-clause-continues g c =
-    continues_on _ _ _ c.loop-node.invariant.1 c.turn.ensures.continues
-
-pub returns-clause-continues : goal.returns-clause-continues
-returns-clause-continues g c = c.loop-node.invariant.1
+returns-in_err-turn-clause-continues g c = continues_on _ _ _ c.loop-node.invariant.1 c.turn.ensures.continues

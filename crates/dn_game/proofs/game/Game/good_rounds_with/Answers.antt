@@ -51,14 +51,3 @@ returns-clause-good g c players extra capacity m r =
 pub returns-in_err-good_round_with-clause-continues : goal.returns-in_err-good_round_with-clause-continues
 returns-in_err-good_round_with-clause-continues g c =
     continues_on _ _ _ c.loop.invariant.1 c.good_round_with.ensures.continues
-
-pub returns-clause-continues : goal.returns-clause-continues
-returns-clause-continues g c = c.loop.invariant.1
-
-pub returns-in_err-good_round_with-clause-none : goal.returns-in_err-good_round_with-clause-none
-returns-in_err-good_round_with-clause-none g c none =
-    absurd (omega (arith, c.loop-test.true, c.loop.auto.counter-end, none))
-
-pub returns-clause-none : goal.returns-clause-none
-returns-clause-none g c none =
-    c.loop.invariant.2 (omega (arith, c.loop-test.false, c.loop.auto.counter-end, none))

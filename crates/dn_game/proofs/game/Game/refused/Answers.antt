@@ -1,5 +1,4 @@
-use Rattle.std.proofs.Common.{◌≡◌, true, ℕ, ap, sym, ◌∙◌}
-use Rattle.std.specs.Prelude.{nat_lt}
+use Rattle.std.proofs.Common.{◌≡◌, true, ℕ, ap, sym, ◌∙◌, nat_lt}
 use Rattle.dn_machine.specs.Game.{refused}
 use Rattle.dn_game.proofs.{Applying.{refused_send, refused_own}, game.Game.refused.Goals.{in-Build, in-Build-2, in-Build-3, in-Build-4, in-Build-5}}
 use Rattle.dn_game.proofs.game.Game.refused.Goals as goal

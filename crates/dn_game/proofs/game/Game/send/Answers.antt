@@ -1,7 +1,6 @@
 -- What a node gives, and what joins the packets.
-use Rattle.std.proofs.Common.{◌≡◌, ◌++◌, ◌∷◌, [], ℕ, List, length, map, Some, None, Option, refl, ap, sym, ◌∙◌, ◌<◌, set, arith, append-nil, inl}
+use Rattle.std.proofs.Common.{◌≡◌, ◌++◌, ◌∷◌, [], ℕ, List, length, map, Some, None, Option, refl, ap, sym, ◌∙◌, ◌<◌, set, arith, inl, IfSome, nat_lt, option_map}
 use Rattle.std.proofs.lemmas.{List.{length-map, map_push}, List.Elements.All-push, Bool.{lt-ltb, cond-true}, Option.same_Some}
-use Rattle.std.specs.{Prelude.{All, IfSome, nat_lt}, Option.option_map}
 use Rattle.dn_machine.specs.{declared.events.Done.Done, Game.{posted, on_event, with_node}, Worlds.{Rules, rules_of}, declared.answers.Phase.Phase, declared.events.Event.TheVariants.Send, Sending.{on_send, on_send_in}}
 use Rattle.dn_game.specs.{declared.flight.Flight.Flight, Applied.IsAfter, Contents.{Contents, Represents, IsCarried, flight_of}}
 use Rattle.dn_game.proofs.{Standing.{moved, places, node_at}, Framing.{others_step, worlds_step, sent_after}}
@@ -25,15 +24,10 @@ module _ {W S : Type 0} (state : W → S) (rules : Rules S) (g : Contents W) (m 
   -- where there is none, nothing changes
   posts_none : given ≡ None → flights ≡ g.flights
       → IsAfter state rules (record g { flights = flights }) (posted m given) Done.Silent
-  posts_none none same =
-      rw none (record {
-        game = moved state rules g m r _ _ refl r.nodes r.stopped (same ∙ r.flights) r.carried;
-        answered = refl;
-      })
+  posts_none none same = grind (arith, moved)
 
   posts_some : (flight : exact.Flight) → given ≡ Some flight → (f : Flight) → f ≡ flight_of flight
-      → IsCarried rules.players flight
-      → flights ≡ g.flights ++ f ∷ [] → (which : ℕ) → which ≡ length g.flights
+      → IsCarried rules.players flight → flights ≡ g.flights ++ f ∷ [] → (which : ℕ) → which ≡ length g.flights
       → IsAfter state rules (record g { flights = flights }) (posted m given) (Done.Sent which)
   posts_some flight some f is carried more which last =
       rw some (record {
@@ -49,8 +43,7 @@ abbrev IsBetween : ℕ → ℕ → exact.Flight → Type 0
 IsBetween me to flight = (flight.from ≡ me) × (flight.to ≡ to)
 
 between_in : {S : Type 0} (rules : Rules S) (me to : ℕ) (m : machine_node.Node) (phase : Phase)
-    (given : exact.Flight)
-    → (on_send_in rules.limits me m to phase).1 ≡ Some given → IsBetween me to given
+    (given : exact.Flight) → (on_send_in rules.limits me m to phase).1 ≡ Some given → IsBetween me to given
 between_in rules me to m phase given e = grind arith
 
 -- a packet that a node gives is carried
@@ -82,8 +75,7 @@ module _ {W S : Type 0} (state : W → S) (rules : Rules S) (g : Contents W) (m 
       (on_event rules m (Send me to)) Done.Silent
   sends_none is none same =
       let sent = sent_to to rules.limits me (m.nodes me) in
-      rw asked
-      at (posts_none state rules (record g { nodes = set g.nodes me new }) (with_node m me sent.0)
+      rw asked at (posts_none state rules (record g { nodes = set g.nodes me new }) (with_node m me sent.0)
       (places state rules g m me new sent.0 r below is) sent.1 flights none same)
 
   -- the packet has the numbers that were aimed at
@@ -112,8 +104,7 @@ module _ {W S : Type 0} (state : W → S) (rules : Rules S) (g : Contents W) (m 
         aim = numbers k;
         bytes = record { items = some.2 k };
       } in
-      rw asked
-      at (posts_some state rules (record g { nodes = set g.nodes me new }) (with_node m me sent.0)
+      rw asked at (posts_some state rules (record g { nodes = set g.nodes me new }) (with_node m me sent.0)
       (places state rules g m me new sent.0 r below after.node) sent.1 flights flight some.1 _ is carried more
       which last)
 
@@ -122,20 +113,12 @@ joins : (new old before : List Flight) (f : Flight) → new ≡ old ++ f ∷ [] 
     → new ≡ before ++ f ∷ []
 joins new old before f is kept = is ∙ ap (λ (fs : List Flight). fs ++ f ∷ []) kept
 
--- and all receivers are players still
-still_below : (count after : ℕ) (old new : List Flight) (f : Flight) → new ≡ old ++ f ∷ []
-    → All (λ x. x.to < count) old → f.to < count → after ≡ count
-    → All (λ x. x.to < after) new
-still_below count after old new f is all one same =
-    rw (same, is) (All-push (λ (x : Flight). x.to < count) old f all one)
-
 pub returns-in_default-packet_with_aim-clause-sent : goal.returns-in_default-packet_with_aim-clause-sent
 returns-in_default-packet_with_aim-clause-sent g c players extra capacity m r =
     let rules = rules_of g.W.World.physics players extra capacity in
     let shown = node_at _ rules _ m r _ _ c.requires.node c.index_mut.ensures.value in
     let given = c.packet_with_aim.ensures in
-    let none = no_flight aim_of _
-    (ap aim_in (sym c.in_default-packet_with_aim.is) ∙ given.aimed _ _ _ shown) in
+    let none = no_flight aim_of _ (ap aim_in (sym c.in_default-packet_with_aim.is) ∙ given.aimed _ _ _ shown) in
     inl (
       Done.Silent,
       refl,
@@ -154,10 +137,8 @@ returns-clause-sent g c players extra capacity m r =
     inl (
       Done.Sent c.len-which.result,
       refl,
-      sends_packet _ rules _ m r _ _ c.requires.node c.requires.to _ _ _ _ _ _ shown given.peer
-          aimed
-          (record { node = step.node; answer = sent })
-          (given.fair _ _ _ shown)
+      sends_packet _ rules _ m r _ _ c.requires.node c.requires.to _ _ _ _ _ _ shown given.peer aimed
+          (record { node = step.node; answer = sent }) (given.fair _ _ _ shown)
           (joins _ _ _ _ c.push.ensures.flights c.in-Ok.ensures.kept)
           (c.len-which.ensures ∙ ap length c.in-Ok.ensures.kept),
     )
@@ -167,8 +148,7 @@ returns-in_default-packet_with_aim-clause-whose g c =
     whose_step _ _ _ _ c.index_mut.ensures.value c.packet_with_aim.ensures.sent.2.same
 
 pub returns-clause-whose : goal.returns-clause-whose
-returns-clause-whose g c =
-    whose_step _ _ _ _ c.index_mut.ensures.value c.packet_with_aim.ensures.sent.2.same
+returns-clause-whose g c = whose_step _ _ _ _ c.index_mut.ensures.value c.packet_with_aim.ensures.sent.2.same
 
 pub returns-in_default-packet_with_aim-clause-others : goal.returns-in_default-packet_with_aim-clause-others
 returns-in_default-packet_with_aim-clause-others g c i apart = others_step _ _ _ _ refl i apart
@@ -181,9 +161,6 @@ returns-clause-others g c i apart = others_step _ _ _ _ refl i apart
 
 pub returns-clause-worlds : goal.returns-clause-worlds
 returns-clause-worlds g c = worlds_step _ _ _ _ c.index_mut.ensures.value c.packet_with_aim.ensures.world
-
-pub returns-in_default-packet_with_aim-clause-more : goal.returns-in_default-packet_with_aim-clause-more
-returns-in_default-packet_with_aim-clause-more g c = ([], c.in-Ok.ensures.kept ∙ sym (append-nil _))
 
 pub returns-clause-more : goal.returns-clause-more
 returns-clause-more g c = sent_after _ _ _ _ c.push.ensures.flights c.in-Ok.ensures.kept

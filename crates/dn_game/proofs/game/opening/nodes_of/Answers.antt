@@ -1,5 +1,4 @@
-use Rattle.std.proofs.Common.{rules, ◌≡◌, [], ◌∷◌, ◌++◌, length, ap, sym, ◌∙◌, arith, length-append}
-use Rattle.std.specs.Prelude.{◌==◌}
+use Rattle.std.proofs.Common.{rules, ◌≡◌, [], ◌∷◌, ◌++◌, length, ap, sym, ◌∙◌, arith, length-append, ◌==◌}
 use Rattle.std.proofs.lemmas.{Bool.{cond-true, eq-eqb}, List.Elements.All-push}
 use Rattle.dn_lockstep.specs.{declared.config.Config.Config, Contents.Whose}
 use Rattle.dn_game.specs.Opening.{rules_in}

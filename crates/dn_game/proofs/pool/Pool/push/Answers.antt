@@ -7,8 +7,7 @@ bytes_are : (c : goal.After-push_reserved) → c.append.new.bytes.items
     ≡ c.self.inside.bytes.items ++ c.args.bytes.now
 bytes_are c = search rules
 
-records_are : (c : goal.After-push_reserved)
-    → c.push_reserved.new.self.items ≡ c.self.inside.records.items
+records_are : (c : goal.After-push_reserved) → c.push_reserved.new.self.items ≡ c.self.inside.records.items
     ++ newest c.self.inside.bytes.items c.args.from c.args.to c.args.aim c.args.bytes.now ∷ []
 records_are c = search rules
 
@@ -22,8 +21,7 @@ pub returns-clause-flights : goal.returns-clause-flights
 returns-clause-flights c =
     rw (bytes_are c, records_are c)
     (packs_flight c.self.inside.bytes.items c.self.inside.records.items c.self.invariant c.args.from c.args.to
-    c.args.aim c.args.bytes.now c.requires.short
-    ∙ ap (λ (p : Pool). p.flights ++ record {
+    c.args.aim c.args.bytes.now c.requires.short ∙ ap (λ (p : Pool). p.flights ++ record {
       from = c.args.from;
       to = c.args.to;
       aim = c.args.aim;

@@ -1,8 +1,6 @@
 -- The event of three words.
-use Rattle.std.proofs.Common.{◌≡◌, ◌%◌, ℕ, false, length, Option, ap, ◌∙◌, arith, Some, None}
-use Rattle.std.specs.{Prelude.slice_index_or, Option.option_map}
-use Rattle.rand_pcg.specs.Lcg.{Lcg}
-use Rattle.rand_pcg.specs.Pcg.{pcg32}
+use Rattle.std.proofs.Common.{◌≡◌, ◌%◌, ℕ, false, length, Option, ap, ◌∙◌, arith, Some, None, slice_index_or, option_map}
+use Rattle.rand_pcg.specs.{Lcg.Lcg, Pcg.pcg32}
 use Rattle.dn_machine.specs.{Game.Game, Worlds.{Rules, rules_of}}
 use Rattle.dn_game.specs.{Contents.{Contents, Represents}, Schedule.{first_moving, event_of, next_event, scheduled}}
 use Rattle.dn_game.proofs.schedule.Schedule.next.Goals as goal
@@ -26,8 +24,7 @@ returns-in_err-node-clause-given g c players extra capacity m r =
     let game = rules_of g.W.World.physics players extra capacity in
     c.from_residual.ensures
     ∙ event_by g.W.World.state game _ m r c.next_word-a.result c.next_word-b.result c.next_word-c.result _
-    c.players.ensures.value
-    None c.in_err-node.ensures.value
+    c.players.ensures.value None c.in_err-node.ensures.value
     ∙ of_words players m _ _ _ _ _ _ _ c.next_word-a.ensures c.next_word-b.ensures c.next_word-c.ensures
     ∙ ap (scheduled players m) c.self.view_is
 
@@ -36,7 +33,6 @@ returns-clause-given g c players extra capacity m r =
     let game = rules_of g.W.World.physics players extra capacity in
     ap Some (c.event_of.ensures.told players extra capacity m r)
     ∙ event_by g.W.World.state game _ m r c.next_word-a.result c.next_word-b.result c.next_word-c.result _
-    c.players.ensures.value
-    (Some c.in_ok-node.node) c.in_ok-node.ensures.value
+    c.players.ensures.value (Some c.in_ok-node.node) c.in_ok-node.ensures.value
     ∙ of_words players m _ _ _ _ _ _ _ c.next_word-a.ensures c.next_word-b.ensures c.next_word-c.ensures
     ∙ ap (scheduled players m) c.self.view_is

@@ -1,14 +1,11 @@
-use Rattle.std.proofs.Common.{refl}
-use Rattle.std.specs.Prelude.{codes, Some}
-use Rattle.std.proofs.lemmas.{Bool.Decides.Decides-eqb, Slice.Eq.strip_prefix_is}
+use Rattle.std.proofs.{Common.{refl, codes, Some}, lemmas.{Bool.Decides.Decides-eqb, Slice.Eq.strip_prefix_is}}
 use Rattle.dn_game.proofs.Scripts.{heads_differ, seconds_differ, no_number}
 use Rattle.dn_game.proofs.script.line.event.Goals as goal
 
 pub returns-in_err-number : goal.returns-in_err-number
 returns-in_err-number c =
     let word = c.in-Some-strip_prefix-2 in
-    rw c.from_residual.ensures
-    (no_number (codes "deliver") _ _ refl (heads_differ refl) (heads_differ refl)
+    rw c.from_residual.ensures (no_number (codes "deliver") _ _ refl (heads_differ refl) (heads_differ refl)
     (strip_prefix_is Decides-eqb _ (codes "deliver ") (Some word.word) word.ensures.cases)
     c.in_err-number.ensures)
 

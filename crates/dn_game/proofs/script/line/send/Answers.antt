@@ -8,6 +8,5 @@ returns-in_err-number c =
 
 pub returns-in_err-number-2 : goal.returns-in_err-number-2
 returns-in_err-number-2 c =
-    rw c.from_residual-in_err-number-2.ensures
-    (λ e told. c.in_err-number-2.ensures _
+    rw c.from_residual-in_err-number-2.ensures (λ e told. c.in_err-number-2.ensures _
     (sent _ _ _ c.in_ok-node.ensures.0 c.in_ok-node.ensures.1 e told).3)

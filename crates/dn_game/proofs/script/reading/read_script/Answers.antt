@@ -41,8 +41,7 @@ keys_or _ others = others
 
 -- a number behind a word
 told_number : (verb word line : List ℕ) (keys number : ℕ) (make : ℕ → Event) → IsNumber word number
-    → words line ≡ verb ∷ words word
-    → event_of keys (verb ∷ word ∷ []) ≡ make (digits_value 10 word)
+    → words line ≡ verb ∷ words word → event_of keys (verb ∷ word ∷ []) ≡ make (digits_value 10 word)
     → event_of keys (words line) ≡ make number
 told_number verb word line keys number make n same e = grind (arith, event_of, one_word, number_no_space)
 
@@ -59,13 +58,11 @@ told_event others line (Stop node) (word, number, same) =
     told_number (codes "stop") word line others node (λ n. Stop n) number (ap words same) refl
 told_event others line (Give node command) never = absurd never
 told_event others line (Send node to) (n, m, number, other, same) =
-    ap (λ l. event_of others (words l)) same
-    ∙ ap (λ w. event_of others (codes "send" ∷ w))
+    ap (λ l. event_of others (words l)) same ∙ ap (λ w. event_of others (codes "send" ∷ w))
     (two_words n m (number_no_space n node number) (number_no_space m to other))
     ∙ ap₂ (λ x y. Send x y) (sym number.value) (sym other.value)
 told_event others line (Build node keys) (n, k, number, held, same) =
-    ap (λ l. event_of keys (words l)) same
-    ∙ ap (λ w. event_of keys (codes "build" ∷ w))
+    ap (λ l. event_of keys (words l)) same ∙ ap (λ w. event_of keys (codes "build" ∷ w))
     (two_words n k (number_no_space n node number) (keys_lack 32 k keys refl refl held))
     ∙ ap (λ x. Build x keys) (sym number.value)
 
@@ -115,16 +112,14 @@ events_behind (told s p) = (_, p)
 
 -- none of these lines is bad
 not_bad : (before : List (List ℕ)) (line : List ℕ) (after : List (List ℕ)) (events : List Event)
-    → AreEventsOf (before ++ line ∷ after) events
-    → ¬ IsBad line
+    → AreEventsOf (before ++ line ∷ after) events → ¬ IsBad line
 not_bad [] line after _ (skipped s p) bad = bad.0 s
 not_bad [] line after _ (told s p) bad = bad.1 _ s
 not_bad (x ∷ before) line after _ p bad = not_bad before line after _ (events_behind p).1 bad
 
 -- two first bad lines are one
 one_place : (b c : List (List ℕ)) (k l : List ℕ) (y z : List (List ℕ)) (es fs : List Event)
-    → b ++ k ∷ y ≡ c ++ l ∷ z
-    → AreEventsOf b es → AreEventsOf c fs → IsBad k → IsBad l → length b ≡ length c
+    → b ++ k ∷ y ≡ c ++ l ∷ z → AreEventsOf b es → AreEventsOf c fs → IsBad k → IsBad l → length b ≡ length c
 one_place [] [] k l y z es fs e p q bad worse = refl
 one_place [] (x ∷ c) k l y z es fs e p q bad worse =
     let same : k ≡ x = cc in

@@ -11,8 +11,7 @@ loop-byte-preserved c = more_letters _ _ _ _ c.loop-byte.invariant c.loop-byte-t
 
 pub returns-in_err-place : goal.returns-in_err-place
 returns-in_err-place c =
-    rw c.from_residual.ensures
-    (not_keys _ c.loop-byte.byte-index _ c.loop-byte.invariant c.loop-byte-test.true
+    rw c.from_residual.ensures (not_keys _ c.loop-byte.byte-index _ c.loop-byte.invariant c.loop-byte-test.true
     c.in_err-place.ensures.value)
 
 pub returns : goal.returns

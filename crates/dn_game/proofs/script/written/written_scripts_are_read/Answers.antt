@@ -40,15 +40,13 @@ module _ (keys : ℕ) where
   passes letter = is_down_at keys (place_in_letters letter)
 
   -- a letter of keys is there exactly where its bit is set
-  bit_written : (i : ℕ) → i < 18 → bit_at keys i ≡ 1
-      → Contains (letters_down keys letters) (get_or letters i 0)
+  bit_written : (i : ℕ) → i < 18 → bit_at keys i ≡ 1 → Contains (letters_down keys letters) (get_or letters i 0)
   unfolding passes
   bit_written i small set =
       kept passes letters i (get_or letters i 0) small (get_or_default letters i (get_or letters i 0) 0 small)
       (ap (is_down_at keys) (letter_found i small) ∙ eq-eqb _ _ set)
 
-  written_bit : (i : ℕ) → i < 18 → Contains (letters_down keys letters) (get_or letters i 0)
-      → bit_at keys i ≡ 1
+  written_bit : (i : ℕ) → i < 18 → Contains (letters_down keys letters) (get_or letters i 0) → bit_at keys i ≡ 1
   unfolding passes
   written_bit i small (k, within, same) =
       let pass : passes (get_or (letters_down keys letters) k (get_or letters i 0)) ≡ true =
@@ -125,8 +123,7 @@ words_no_feed (Quit node) can = one_behind (codes "quit ") (decimal node) refl (
 words_no_feed (Stop node) can = one_behind (codes "stop ") (decimal node) refl (number_no_feed node can)
 
 -- the lines of a script are those of its events
-lines_read : (events : List Event) → All HasScriptLine events
-    → AreEventsOf (lines (script_text events)) events
+lines_read : (events : List Event) → All HasScriptLine events → AreEventsOf (lines (script_text events)) events
 lines_read [] can =
     subst (λ ls. AreEventsOf ls []) (sym (slice_split_none (λ byte. eqb byte 10) [] (lacks 10 [] refl)))
     (skipped (inl refl) none)

@@ -1,9 +1,8 @@
 use Rattle.std.proofs.Common.{refl, ◌≡◌, sym, ◌∙◌, arith}
 use Rattle.dn_machine.specs.Hearing.{after_request}
 use Rattle.dn_lockstep.specs.{Contents.contents, Tables.peer_at, Received.request_in}
-use Rattle.dn_lockstep.proofs.After.{steps}
+use Rattle.dn_lockstep.proofs.{After.steps, Taking.{IsRead, leaver_asked}, lockstep.Lockstep.answer.Goals.After-ask}
 use Rattle.dn_lockstep.proofs.Changing.{AreKept, kept_asked, same_end, gone_still, stays_gone, resends_low}
-use Rattle.dn_lockstep.proofs.{Taking.{IsRead, leaver_asked}, lockstep.Lockstep.answer.Goals.After-ask}
 use Rattle.dn_lockstep.proofs.lockstep.Lockstep.answer.Goals as goal
 
 -- what is kept of the peer, and of them all
@@ -39,8 +38,7 @@ returns-in-Err-clause-step c cause = grind (arith, steps)
 pub returns-clause-step : goal.returns-clause-step
 returns-clause-step c cause = steps refl (λ limits me m r.
     let read : IsRead (contents c.args.self.now) c.args.from c.args.packet.now c.made-made.result
-    c.in_default.field-0 =
-    grind arith in
+    c.in_default.field-0 = grind arith in
     leaver_asked r read cause (peer_at c.ask.new.self) c.requires.played
     (sym c.has_flag.ensures ∙ c.if-has_flag.false) (asked (goal.at.returns-clause-step c).After-ask)
     c.ask.ensures.others)

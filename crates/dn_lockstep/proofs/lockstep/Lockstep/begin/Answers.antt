@@ -1,6 +1,6 @@
-use Rattle.std.proofs.Common.{arith, subst, sym}
-use Rattle.dn_lockstep.specs.{Contents.contents, Represents.Represents}
-use Rattle.dn_lockstep.proofs.{After.along, Gathering.{last_noted, other_starts}}
+use Rattle.std.proofs.Common.{arith}
+use Rattle.dn_lockstep.specs.{Contents.contents}
+use Rattle.dn_lockstep.proofs.{Gathering.{last_noted, other_starts}}
 use Rattle.dn_lockstep.proofs.lockstep.Lockstep.begin.Goals as goal
 
 pub returns-then-self-gt0-clause-begun : goal.returns-then-self-gt0-clause-begun

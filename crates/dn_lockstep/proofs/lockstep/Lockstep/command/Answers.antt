@@ -1,4 +1,4 @@
-use Rattle.std.proofs.{Common.arith, lemmas.Bool.lt-ltb}
+use Rattle.std.proofs.Common.{arith, lt-ltb}
 use Rattle.dn_lockstep.proofs.{Shown.below, Keeping.get_within}
 use Rattle.dn_lockstep.proofs.lockstep.Lockstep.command.Goals.{else-player-self-via-else-player-self}
 use Rattle.dn_lockstep.proofs.lockstep.Lockstep.command.Goals as goal

@@ -1,9 +1,8 @@
-use Rattle.std.proofs.Common.{refl, sym, ◌∙◌, ap, arith, rules, inl, inr, Option, None, ℕ, ◌≡◌}
+use Rattle.std.proofs.Common.{refl, sym, ◌∙◌, ap, arith, rules, inl, inr, Option, None, ℕ, ◌≡◌, w16}
 use Rattle.std.proofs.lemmas.Int.{ints, to_z-of_z}
 use Rattle.dn_machine.specs.Node as machine
 use Rattle.dn_machine.specs.{Running.is_over, declared.peer.Peer.Peer}
 use Rattle.dn_lockstep.specs.Tables.{peer_at, ring_at}
-use Rattle.std.specs.Int.{w16}
 use Rattle.dn_ring.specs.Ring.{Ring}
 use Rattle.dn_lockstep.proofs.{After.{after, steps}, Shown.{mine, made_is, changed}}
 use Rattle.dn_lockstep.proofs.Changing.{build_not, build_full, build_makes, own_ring, shows_commands}

@@ -1,13 +1,10 @@
-use Rattle.std.proofs.Common.{◌≡◌, ◌-◌, ℕ, Option, refl, ap, sym, ◌∙◌, arith}
+use Rattle.std.proofs.Common.{◌≡◌, ◌-◌, ℕ, Option, refl, ap, sym, ◌∙◌, arith, ◌⊎◌, option_map}
 use Rattle.dn_setup.specs.Settings.{bit}
 use Rattle.dn_machine.specs.Node as machine
-use Rattle.dn_machine.specs.{Limits.Limits, declared.answers.Cause.Cause, declared.answers.Phase.Phase}
-use Rattle.dn_machine.specs.declared.answers.Phase.TheVariants.{Playing, Ended}
-use Rattle.dn_machine.specs.{Sending.{lag, last_sent, after_sent}, declared.peer.Peer.Peer, Flight.Flight}
-use Rattle.std.specs.{Prelude.◌⊎◌, Option.option_map}
+use Rattle.dn_machine.specs.{Limits.Limits, declared.answers.{Cause.Cause, Phase.{Phase, TheVariants.{Playing, Ended}}}}
+use Rattle.dn_machine.specs.{declared.peer.Peer.Peer, Sending.{lag, last_sent, after_sent}, Flight.Flight}
 use Rattle.dn_lockstep.specs.{Sent.{after_giving, aim_of}, Tables.{ring_at, peer_at}}
-use Rattle.dn_lockstep.proofs.{Giving.{own_aim, last_is, sends_in}, After.{along, becomes}}
-use Rattle.dn_lockstep.proofs.Shown.{made_is, below}
+use Rattle.dn_lockstep.proofs.{Giving.{own_aim, last_is, sends_in}, After.{along, becomes}, Shown.{made_is, below}}
 use Rattle.dn_lockstep.proofs.Changing.{AreKept, same_end, gone_still, stays_gone, resends_low, shows_peer}
 use Rattle.dn_lockstep.proofs.lockstep.Lockstep.note_sent.Goals.{After-resend_from}
 use Rattle.dn_lockstep.proofs.lockstep.Lockstep.note_sent.Goals as goal
@@ -30,10 +27,7 @@ returns-in-Playing-clause-step c = becomes refl (λ limits me m r.
     let end = last_is limits me m c.args.to c.args.aim.now own.0 own.1 (omega arith) own.2 in
     let lags : c.lag.result ≡ lag limits = c.lag.ensures ∙ ap bit r.whose.extra in
     let tic : c.saturating_sub-resend.result ≡ last_sent limits me m c.args.to - lag limits = grind arith in
-    let peer = c.resend_from.ensures.put ∙ ap (λ (x : Peer). record x {
-      resend =
-          c.saturating_sub-resend.result;
-    })
+    let peer = c.resend_from.ensures.put ∙ ap (λ (x : Peer). record x { resend = c.saturating_sub-resend.result })
     kept in
     let step = ap (after_giving limits me m c.args.to) (sym r.stands.phase)
     ∙ gives limits me m c.args.to n.phase c.in-Playing.is
@@ -41,8 +35,7 @@ returns-in-Playing-clause-step c = becomes refl (λ limits me m r.
     along step (shows_peer r c.args.to _ refl peer c.resend_from.ensures.others))
 
 -- nothing but where its resends start is kept otherwise
-kept : (c : After-resend_from)
-    → AreKept (peer_at c.args.self.now.peers) (peer_at c.resend_from.new.self) c.args.to
+kept : (c : After-resend_from) → AreKept (peer_at c.args.self.now.peers) (peer_at c.resend_from.new.self) c.args.to
     (ring_at c.args.self.now.rings c.args.self.now.me).count
 kept c = grind (arith, c.requires.reach.low, c.resend_from.ensures.put, c.saturating_sub-resend.ensures)
 
@@ -61,5 +54,4 @@ invariant_of-self-clause-reached c p below h =
 
 pub invariant_of-self-clause-resends : goal.invariant_of-self-clause-resends
 invariant_of-self-clause-resends c =
-    resends_low (kept (goal.at.invariant_of-self-clause-resends c).After-resend_from) refl _
-    c.args.self.now.resends
+    resends_low (kept (goal.at.invariant_of-self-clause-resends c).After-resend_from) refl _ c.args.self.now.resends

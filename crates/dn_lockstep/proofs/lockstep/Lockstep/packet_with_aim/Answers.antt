@@ -1,8 +1,7 @@
-use Rattle.std.proofs.Common.{Some, refl, ap, sym, ◌∙◌, subst, None, arith}
-use Rattle.std.specs.Option.{option_map}
+use Rattle.std.proofs.Common.{Some, refl, ap, sym, ◌∙◌, subst, arith, option_map}
 use Rattle.dn_packet.specs.Text.{text}
 use Rattle.dn_lockstep.specs.{Contents.{Contents, contents}, Giving.{Reaches, packet_of_aim}}
-use Rattle.dn_lockstep.specs.{Sent.{sent_to, after_giving, aim_of}, Steps.Tells}
+use Rattle.dn_lockstep.specs.{Sent.{sent_to, after_giving}, Steps.Tells}
 use Rattle.dn_lockstep.proofs.After.{along, steps}
 use Rattle.dn_lockstep.proofs.Giving.{none_sent, no_flight, given_shows, spelled, IsGivenAs, own_given, set_up_given}
 use Rattle.dn_lockstep.proofs.lockstep.Lockstep.packet_with_aim.Goals.{After-write_own, After-to_packet}
@@ -15,13 +14,7 @@ write_own-requires-clause-reach c =
     (record { flags = reach.flags; low = reach.low; high = reach.high; kept = reach.kept; few = reach.few })
 
 pub returns-in_default-clause-sent : goal.returns-in_default-clause-sent
-returns-in_default-clause-sent c = (
-  None,
-  (refl, refl),
-  steps refl (λ limits me m r.
-      let none = no_flight aim_of _ (sym c.in_default.is ∙ c.aim.ensures.told limits me m r) in
-      grind (arith, along, none_sent)),
-)
+returns-in_default-clause-sent c = grind (arith, steps, no_flight, along, none_sent)
 
 -- the own commands that are written are those of the flight that is sent
 own_so : (c : After-write_own) → Tells (contents c.args.self.now)
@@ -48,8 +41,7 @@ returns-in_default-phase-clause-sent c = (
 
 pub returns-in_default-phase-clause-fair : goal.returns-in_default-phase-clause-fair
 returns-in_default-phase-clause-fair c limits me m r =
-    (own_so (goal.at.returns-in_default-phase-clause-fair c).After-write_own limits me
-    m r).fair
+    (own_so (goal.at.returns-in_default-phase-clause-fair c).After-write_own limits me m r).fair
 
 -- and so are the settings
 set_up_so : (c : After-to_packet) → Tells (contents c.args.self.now)
@@ -64,17 +56,13 @@ returns-clause-sent c = (
   Some (text c.to_packet.result),
   c.encode_to.ensures,
   steps refl (λ limits me m r.
-      let sent = (set_up_so (goal.at.returns-clause-sent c).After-to_packet limits me
-      m r).same in
-      let after = ap (after_giving limits me m c.args.to)
-      (sym r.stands.phase ∙ c.in-Gathering.is) in
+      let sent = (set_up_so (goal.at.returns-clause-sent c).After-to_packet limits me m r).same in
+      let after = ap (after_giving limits me m c.args.to) (sym r.stands.phase ∙ c.in-Gathering.is) in
       record {
-        node = given_shows _ me _ _ m c.args.to c.to_packet.result r c.in-Some.ensures.reach.1 sent
-            (along after r);
+        node = given_shows _ me _ _ m c.args.to c.to_packet.result r c.in-Some.ensures.reach.1 sent (along after r);
         answer = ap (option_map text) sent ∙ spelled _;
       }),
 )
 
 pub returns-clause-fair : goal.returns-clause-fair
-returns-clause-fair c limits me m r =
-    (set_up_so (goal.at.returns-clause-fair c).After-to_packet limits me m r).fair
+returns-clause-fair c limits me m r = (set_up_so (goal.at.returns-clause-fair c).After-to_packet limits me m r).fair

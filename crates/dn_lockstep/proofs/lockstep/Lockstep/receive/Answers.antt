@@ -14,8 +14,7 @@ returns-then-hears_none-clause-near c =
 pub returns-then-from-self-clause-any : goal.returns-then-from-self-clause-any
 returns-then-from-self-clause-any c =
     any_strange (contents c.args.self.now) c.args.from c.args.bytes.now
-    (sym c.hears_none.ensures ∙ c.if-hears_none.false)
-    (grind arith)
+    (sym c.hears_none.ensures ∙ c.if-hears_none.false) (grind arith)
 
 pub returns-in-Ok : goal.returns-in-Ok
 returns-in-Ok c =

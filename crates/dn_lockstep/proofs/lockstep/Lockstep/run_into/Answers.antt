@@ -1,5 +1,4 @@
-use Rattle.std.proofs.Common.{ap, sym, ℕ, arith}
-use Rattle.std.specs.Prelude.{◌≡◌, get_or, false, ◌∷◌, []}
+use Rattle.std.proofs.Common.{ap, sym, ℕ, arith, ◌≡◌, get_or, false, ◌∷◌, []}
 use Rattle.dn_lockstep.specs.Steps.{with_row}
 use Rattle.dn_lockstep.proofs.{After.{after, steps}, Running.run_all}
 use Rattle.dn_lockstep.proofs.lockstep.Lockstep.run_into.Goals as goal

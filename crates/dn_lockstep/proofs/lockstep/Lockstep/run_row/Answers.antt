@@ -1,7 +1,6 @@
-use Rattle.std.proofs.Common.{◌≡◌, ◌<◌, ◌+◌, ℕ, Bool, true, false, true≢false, not, List, Option, Some, refl, ap, sym, ◌∙◌, subst, arith}
-use Rattle.std.specs.Prelude.{if◌then◌else◌, All, IfSome}
+use Rattle.std.proofs.Common.{◌≡◌, ◌<◌, ◌+◌, ℕ, Bool, true, false, true≢false, not, List, Option, Some, refl, ap, sym, ◌∙◌, arith, if◌then◌else◌}
 use Rattle.dn_tic.specs.declared.command.Move.{Move}
-use Rattle.dn_demo.specs.{Recorded.AddsRow, Text.{IsMove, IsRow}, declared.recorder.Stage.Stage}
+use Rattle.dn_demo.specs.{Text.{IsRow}, declared.recorder.Stage.Stage}
 use Rattle.dn_demo.specs.declared.recorder.Stage.TheVariants.{Open, Closed}
 use Rattle.dn_machine.specs.{declared.answers.Ran.Ran, Node.{is_whole, lacks}, Running.{row_held, marks_kept}}
 use Rattle.dn_lockstep.specs.{Contents.{contents, whose}, Tables.{peer_at, ring_at}}
@@ -38,8 +37,7 @@ returns-then-tic-full_at-clause-full c e limits me m r =
 pub write-requires-clause-room : goal.write-requires-clause-room
 write-requires-clause-room c e =
     let at = goal.at.write-requires-clause-room c in
-    let is_open = opened at.After-stamp e in
-    grind (arith, row_fits)
+    grind (arith, opened at.After-stamp e, row_fits)
 
 -- the demo after the tic is open where the row is whole
 stage_whole : (b : Bool) (stage : Stage) → stage ≡ (if b then Open else Closed) → stage ≡ Open → b ≡ true
@@ -75,16 +73,13 @@ invariant_of-self-2-clause-seats c on is_open = grind (arith, stage_whole, opene
 pub invariant_of-self-2-clause-size : goal.invariant_of-self-2-clause-size
 invariant_of-self-2-clause-size c on is_open =
     let whole = stage_whole c.fill_row-whole.result _ c.write.ensures.stage is_open in
-    let before = opened (goal.at.invariant_of-self-2-clause-size c).After-stamp whole in
-    grind (arith, size_more)
+    grind (arith, opened (goal.at.invariant_of-self-2-clause-size c).After-stamp whole, size_more)
 
 pub invariant_of-self-2-clause-reached : goal.invariant_of-self-2-clause-reached
 invariant_of-self-2-clause-reached c p inside stays =
     let n = c.args.self.now in
     let present = over_later (peer_at n.peers p).end n.ran (n.ran + 1) (omega arith) stays in
-    let there = here_all (ring_at n.rings) (peer_at n.peers) n.players n.ran c.requires.there p inside
-    present in
-    omega arith
+    omega (arith, here_all (ring_at n.rings) (peer_at n.peers) n.players n.ran c.requires.there p inside present)
 
 pub returns-clause-step : goal.returns-clause-step
 returns-clause-step c = steps (ap (λ (k : ℕ). record (whose (contents c.args.self.now)) { limit = k }) c.write.ensures.limit) (λ limits me m r.
@@ -95,17 +90,7 @@ returns-clause-step c = steps (ap (λ (k : ℕ). record (whose (contents c.args.
     let whole : c.fill_row-whole.result ≡ is_whole limits.players (row_held limits m) =
     c.fill_row-whole.ensures.whole ∙ (λ i. is_whole (r.whose.players i) (row i)) in
     let opens = opened (goal.at.returns-clause-step c).After-stamp in
-    let written : IsWritten limits n.demo c.write.new.demo (row_held limits m) = record {
-      begun = n.begun on;
-      open_while = λ e. opens (whole ∙ e);
-      stage = c.write.ensures.stage ∙ ap (λ (b : Bool). if b then Open else Closed) whole;
-      added = λ e. subst (AddsRow n.demo.bytes c.write.new.demo.bytes) row (c.write.ensures.text (whole ∙ e));
-      closes = λ e at. c.write.ensures.closes (whole ∙ e) at;
-      stays = λ e at. c.write.ensures.closed (whole ∙ e) at;
-      fits = λ e. row_of_game r.whose.players row
-          (c.fill_row-whole.ensures.recordable (sym c.fill_row-whole.ensures.whole ∙ whole ∙ e));
-      ranged = subst (All (λ step. IfSome step IsMove)) row c.fill_row-whole.ensures.ranged;
-    } in
+    let written : IsWritten limits n.demo c.write.new.demo (row_held limits m) = grind (arith, fits, row_of_game) in
     let moves = row_moves limits m (marks_in c.args.marks.now) (λ e. c.if-tic-full_at.false (r.table.ran ∙ e ∙ sym full)) in
     after _ _ (ap (with_row limits m) moves)
     (shows_moved limits me _ m (row_held limits m) (marks_kept limits m (marks_in c.args.marks.now)) _ _ r on (n.plays on) (n.known (n.plays on))
@@ -116,5 +101,4 @@ returns-clause-step c = steps (ap (λ (k : ℕ). record (whose (contents c.args.
     (λ p j inside gone. c.stamp.ensures.absent p j (omega (arith, inside, n.few))
     (ap (λ (x : List (Option Move)). lacks x p) row
     ∙ seat_empty r (fits n) c.requires.there p inside (omega (arith, inside, n.few)) gone))
-    c.stamp.ensures.others written)
-    (ap Ran.Ran r.table.ran, ap (λ (x : List (Option Move)). Some x) row))
+    c.stamp.ensures.others written) (ap Ran.Ran r.table.ran, ap (λ (x : List (Option Move)). Some x) row))

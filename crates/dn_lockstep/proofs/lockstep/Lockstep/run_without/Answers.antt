@@ -1,9 +1,7 @@
-use Rattle.std.proofs.{Common.{◌∙◌, ap, refl, sym, rules}, lemmas.Int.to_z-of_z}
-use Rattle.std.specs.Int.{w16}
+use Rattle.std.proofs.{Common.{◌∙◌, ap, refl, sym, rules, w16}, lemmas.Int.to_z-of_z}
 use Rattle.dn_lockstep.specs.Steps.{with_row}
-use Rattle.dn_lockstep.proofs.After.{after, steps}
+use Rattle.dn_lockstep.proofs.{After.{after, steps}, Running.{run_not, run_waits, run_off, run_on}}
 use Rattle.dn_lockstep.proofs.Seats.{finds_awaited, finds_off, off_present, mark_is, should_is, fits}
-use Rattle.dn_lockstep.proofs.Running.{run_not, run_waits, run_off, run_on}
 use Rattle.dn_lockstep.proofs.lockstep.Lockstep.run_without.Goals as goal
 
 pub returns-in_default-clause-step : goal.returns-in_default-clause-step

@@ -2,10 +2,10 @@ use Rattle.std.proofs.Common.{◌≡◌, ◌≤◌, refl, ◌+◌, false, length
 use Rattle.dn_ring.specs.Ring.{Ring}
 use Rattle.dn_machine.specs.{Hearing.{after_request, after_exit, is_strange_end}, Running.is_over}
 use Rattle.dn_lockstep.specs.{Contents.contents, Tables.{peer_at, ring_at}, Received.request_in}
-use Rattle.dn_lockstep.proofs.{After.steps, Shown.{changed, still_counted}}
-use Rattle.dn_lockstep.proofs.Changing.{AreKept, kept_asked, kept_told, kept_wanted, same_end, gone_still, stays_gone, resends_low}
-use Rattle.dn_lockstep.proofs.Taking.{rest_length, none_behind, IsRead, over_shows, odd_shows, stale_shows, gap_shows, taken_shows}
-use Rattle.dn_lockstep.proofs.lockstep.Lockstep.take.Goals.{After-as_slice-commands, After-tell}
+use Rattle.dn_lockstep.proofs.Changing.{AreKept, kept_asked, kept_told, kept_wanted, same_end, gone_still, stays_gone}
+use Rattle.dn_lockstep.proofs.{Changing.resends_low, lockstep.Lockstep.take.Goals.{After-as_slice-commands, After-tell}}
+use Rattle.dn_lockstep.proofs.Taking.{rest_length, none_behind, IsRead, over_shows, odd_shows, stale_shows, gap_shows}
+use Rattle.dn_lockstep.proofs.{Taking.taken_shows, Shown.{changed, still_counted}, After.steps}
 use Rattle.dn_lockstep.proofs.lockstep.Lockstep.take.Goals as goal
 
 -- what was read of the packet, after the first two tests
@@ -28,8 +28,7 @@ usual : (c : After-tell)
 usual c = grind arith
 
 -- and what came of it reaches up to the tics that were run, unless it is gone
-ahead : (c : After-tell)
-    → is_over (peer_at c.args.self.now.peers c.args.from).end c.args.self.now.ran ≡ false
+ahead : (c : After-tell) → is_over (peer_at c.args.self.now.peers c.args.from).end c.args.self.now.ran ≡ false
     → c.args.self.now.ran ≤ c.count-got.result
 ahead c present = grind arith
 
@@ -38,8 +37,7 @@ kept : (c : After-tell)
     → AreKept (peer_at c.args.self.now.peers) (peer_at c.tell.new.self) c.args.from c.made-made.result
 kept c =
     let first : AreKept (peer_at c.args.self.now.peers) (peer_at c.ask.new.self) c.args.from
-    c.made-made.result =
-    kept_asked _ c.request.result (omega arith) c.ask.ensures.put c.ask.ensures.others in
+    c.made-made.result = kept_asked _ c.request.result (omega arith) c.ask.ensures.put c.ask.ensures.others in
     grind (arith, kept_told)
 
 pub returns-then-end-self-clause-step : goal.returns-then-end-self-clause-step
@@ -50,8 +48,7 @@ returns-then-end-self-clause-step c = steps refl (λ limits me m r.
 pub returns-then-is_strange_end-clause-step : goal.returns-then-is_strange_end-clause-step
 returns-then-is_strange_end-clause-step c = steps refl (λ limits me m r.
     odd_shows r (read (goal.at.returns-then-is_strange_end-clause-step c).After-as_slice-commands)
-    c.as_slice-commands.ensures.value c.if-end-self.false c.has_flag-exit.ensures c.count-got.ensures
-    (grind arith))
+    c.as_slice-commands.ensures.value c.if-end-self.false c.has_flag-exit.ensures c.count-got.ensures (grind arith))
 
 -- old commands
 
@@ -154,6 +151,5 @@ returns-clause-step c = steps refl (λ limits me m r.
     c.if-end-self.false c.has_flag-exit.ensures c.count-got.ensures (usual at.After-tell)
     (asked at.After-tell) (ahead at.After-tell) (peer_at c.want-2.new.self)
     (λ p e. c.want-2.ensures.others p e ∙ (kept at.After-tell).others p e) (ring_at c.put_all.new.self)
-    c.if-end-got.false c.if-start-got.false c.want-2.ensures.put c.put_all.ensures.kept
-    c.put_all.ensures.others in
+    c.if-end-got.false c.if-start-got.false c.want-2.ensures.put c.put_all.ensures.kept c.put_all.ensures.others in
     record { node = taken.node; answer = c.left_or-2.ensures ∙ taken.answer })

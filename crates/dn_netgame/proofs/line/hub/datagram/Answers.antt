@@ -1,7 +1,6 @@
 -- Queues in memory.
 use Rattle.std.proofs.Common.{◌≡◌, ℕ, ◌≤◌, ◌+◌, ◌↔◌, List, [], ◌++◌, length, take, min, Result, Ok, Err, arith, rules}
-use Rattle.std.specs.Prelude.{IsOk, OnOk}
-use Rattle.std.proofs.lemmas.List.{take_min, length-take}
+use Rattle.std.proofs.{Common.{IsOk, OnOk}, lemmas.List.{take_min, length-take}}
 use Rattle.dn_netgame.proofs.line.hub.datagram.Goals as goal
 
 -- what holds of an answer that is Ok

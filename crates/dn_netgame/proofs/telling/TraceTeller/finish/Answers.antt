@@ -1,5 +1,4 @@
-use Rattle.std.proofs.Common.{ℕ, List, ◌++◌, ap, ◌∙◌}
-use Rattle.std.specs.String.{string_bytes}
+use Rattle.std.proofs.Common.{ℕ, List, ◌++◌, ap, ◌∙◌, string_bytes}
 use Rattle.dn_netgame.specs.Texts.{game_lines}
 use Rattle.dn_netgame.proofs.Tracing.{traced}
 use Rattle.dn_netgame.proofs.telling.TraceTeller.finish.Goals as goal

@@ -1,5 +1,4 @@
-use Rattle.std.proofs.Common.{◌≡◌, ◌++◌, ◌≤◌, drop, length}
-use Rattle.std.specs.String.{string_bytes}
+use Rattle.std.proofs.Common.{◌≡◌, ◌++◌, ◌≤◌, drop, length, string_bytes}
 use Rattle.dn_measure.specs.Fields.{labelled}
 use Rattle.dn_netgame.specs.Texts.{players_present}
 use Rattle.dn_netgame.proofs.text.demo.push_present.Given as goal

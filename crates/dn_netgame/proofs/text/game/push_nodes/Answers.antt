@@ -1,5 +1,4 @@
-use Rattle.std.proofs.Common.{arith, rules, ◌≡◌, ◌++◌, false, Some, None}
-use Rattle.std.specs.{Prelude.{slice_get, slice_index_or}, String.string_bytes}
+use Rattle.std.proofs.Common.{arith, rules, ◌≡◌, ◌++◌, false, Some, None, slice_get, slice_index_or, string_bytes}
 use Rattle.std.proofs.lemmas.Option.{slice_get_within}
 use Rattle.dn_game.specs.Contents.{contents}
 use Rattle.dn_netgame.specs.Texts.{node_line}
@@ -14,8 +13,7 @@ pub loop-node-preserved : goal.loop-node-preserved
 loop-node-preserved g c =
     let game = contents c.args.game.now in
     let there : slice_get game.nodes c.loop-node.number ≡ Some c.in-Some.node.now = search rules in
-    let put : string_bytes c.push_node.new.text
-    ≡ string_bytes c.loop-node.text
+    let put : string_bytes c.push_node.new.text ≡ string_bytes c.loop-node.text
     ++ node_line (node.contents c.in-Some.node.now) (slice_index_or game.stopped c.loop-node.number false) =
     search rules in
     lines_more _ _ _ _ _ _ _ there c.loop-node.invariant put

@@ -1,5 +1,4 @@
-use Rattle.std.proofs.Common.{◌≡◌, ◌++◌, ◌-◌, ◌≤◌}
-use Rattle.std.specs.String.{string_bytes}
+use Rattle.std.proofs.Common.{◌≡◌, ◌++◌, ◌-◌, ◌≤◌, string_bytes}
 use Rattle.dn_node.specs.Contents.{contents}
 use Rattle.dn_netgame.specs.Texts.{counts, counts_from}
 use Rattle.dn_netgame.proofs.text.nodes.push_counts.Given as goal

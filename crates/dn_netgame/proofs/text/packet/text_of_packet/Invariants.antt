@@ -1,5 +1,4 @@
-use Rattle.std.proofs.Common.{◌≡◌, ◌++◌, ◌≤◌, drop, length}
-use Rattle.std.specs.String.{string_bytes}
+use Rattle.std.proofs.Common.{◌≡◌, ◌++◌, ◌≤◌, drop, length, string_bytes}
 use Rattle.dn_netgame.specs.Texts.{command_lines, lines_of}
 use Rattle.dn_netgame.proofs.text.packet.text_of_packet.Given as goal
 

@@ -1,14 +1,13 @@
 -- The calls are steps.
-use Rattle.std.proofs.Common.{◌≡◌, ℕ, ◌<◌, eqb, ltb, refl, sym, ◌∙◌, ap, subst, inl, inr, List, [], ◌∷◌, ◌++◌, append_assoc}
-use Rattle.std.specs.Prelude.{Bool, true, false, not, ◌&&◌, Option, Some}
+use Rattle.std.proofs.Common.{◌≡◌, ℕ, ◌<◌, eqb, ltb, refl, sym, ◌∙◌, ap, subst, inl, inr, List, [], ◌∷◌, ◌++◌, append_assoc, Bool, true, false, not, ◌&&◌, Option, Some}
 use Rattle.std.proofs.lemmas.Bool.{cases_eq, cases_Bool, and_parts, not-true, ltb-true, eqb-false, cond-true, cond-false}
 use Rattle.std.proofs.lemmas.Option.{same_Some}
 use Rattle.dn_machine.proofs.Put.{put_at, put_off}
 use Rattle.dn_machine.specs.Node.{put}
-use Rattle.dn_remain.specs.{Vanished.Node.Node, Vanished.Node.now, Vanished.Node.Was, Vanished.Node.decided, Vanished.Calls.Keeper, Vanished.Calls.can_decide, Vanished.Calls.report_or, Vanished.Calls.after_news}
-use Rattle.dn_remain.specs.{Vanished.Calls.may_give_up, Vanished.Calls.on_give_up, Vanished.Calls.is_newer, Vanished.Calls.on_report, Vanished.Calls.AreTrue, Vanished.Calls.LeadsTo, Vanished.Steps.GiveUp}
-use Rattle.dn_remain.specs.{Vanished.Steps.Decide, Vanished.Steps.Step, Vanished.Steps.IsRun}
-use Rattle.dn_remain.proofs.{Vanished.Put.own_put, Vanished.Put.twice_put, Vanished.Tests.heard_from}
+use Rattle.dn_remain.specs.Vanished.{Node.{Node, now, Was, decided}, Steps.{GiveUp, Decide, Step, IsRun}}
+use Rattle.dn_remain.specs.Vanished.Calls.{Keeper, can_decide, report_or, after_news, may_give_up, on_give_up, is_newer}
+use Rattle.dn_remain.specs.Vanished.Calls.{on_report, AreTrue, LeadsTo}
+use Rattle.dn_remain.proofs.Vanished.{Put.{own_put, twice_put}, Tests.heard_from}
 use Rattle.dn_remain.proofs.vanish.calls.calls_are_steps.Goals as goal
 
 module _ (players ahead : ℕ) (nodes : ℕ → Node) (older : List (ℕ → Node)) (q : ℕ)

@@ -1,10 +1,8 @@
 -- What a decision brings.
-use Rattle.std.proofs.Common.{◌≡◌, ℕ, ◌<◌, sym, ◌∙◌, ap, List, ◌∷◌, refl, subst, inl, []}
-use Rattle.std.specs.Prelude.{true, false, Option, Some}
-use Rattle.std.proofs.lemmas.Bool.{leb-false}
+use Rattle.std.proofs.Common.{◌≡◌, ℕ, ◌<◌, sym, ◌∙◌, ap, List, ◌∷◌, refl, subst, inl, [], true, false, Option, Some, leb-false}
 use Rattle.dn_machine.specs.{Running.is_over, Node.put}
-use Rattle.dn_remain.specs.{Vanished.Node.Node, Vanished.Node.ran, Vanished.Node.HasHeard, Vanished.Node.decided, Vanished.Steps.Decide, Vanished.Steps.Step}
-use Rattle.dn_remain.proofs.{Vanished.Invariant.IsKept, Vanished.Deciding.got_in, Vanished.Deciding.ends_in, Vanished.Always.always}
+use Rattle.dn_remain.specs.Vanished.{Node.{Node, ran, HasHeard, decided}, Steps.{Decide, Step}}
+use Rattle.dn_remain.proofs.Vanished.{Invariant.IsKept, Deciding.{got_in, ends_in}, Always.always}
 use Rattle.dn_machine.proofs.Put.{put_at}
 use Rattle.dn_remain.proofs.vanish.counts.decisions_come.Goals as goal
 
@@ -20,8 +18,7 @@ known_after players nodes older q l here kept heard hears p t =
 -- so what it has is enough for each tic before the end
 has_command : (node : Node) (p : ℕ) → node.ends p ≡ Some (node.got p) → is_over (node.ends p) (ran node) ≡ false
     → ran node < node.got p
-has_command node p e h =
-    leb-false (node.got p) (ran node) (sym (ap (λ (o : Option ℕ). is_over o (ran node)) e) ∙ h)
+has_command node p e h = leb-false (node.got p) (ran node) (sym (ap (λ (o : Option ℕ). is_over o (ran node)) e) ∙ h)
 
 pub returns : goal.returns
 returns c players ahead [] q run l here stand = absurd run

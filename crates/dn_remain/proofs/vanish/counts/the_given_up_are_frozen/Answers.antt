@@ -1,10 +1,8 @@
 -- Of a player whom a node has given up nothing changes but by a decision.
-use Rattle.std.proofs.Common.{◌≡◌, ℕ, refl, sym, ◌∙◌, ap, List, [], ◌∷◌, arith}
-use Rattle.std.specs.Prelude.{true, false}
-use Rattle.std.proofs.lemmas.Bool.{both_ways}
+use Rattle.std.proofs.{Common.{◌≡◌, ℕ, refl, sym, ◌∙◌, ap, List, [], ◌∷◌, arith, true, false}, lemmas.Bool.both_ways}
 use Rattle.dn_machine.proofs.Put.{put_at, put_off}
-use Rattle.dn_remain.specs.{Vanished.Node.Node, Vanished.Node.now, Vanished.Steps.Act, Vanished.Steps.Decide, Vanished.Steps.Acts, Vanished.Steps.Step, Vanished.Steps.IsRun}
-use Rattle.dn_remain.proofs.{Vanished.Invariant.IsKept, Vanished.Always.always}
+use Rattle.dn_remain.specs.Vanished.{Node.{Node, now}, Steps.{Act, Decide, Acts, Step, IsRun}}
+use Rattle.dn_remain.proofs.Vanished.{Invariant.IsKept, Always.always}
 use Rattle.dn_remain.proofs.vanish.counts.the_given_up_are_frozen.Goals as goal
 
 -- what is asked of the new state

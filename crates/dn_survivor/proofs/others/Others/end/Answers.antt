@@ -1,5 +1,4 @@
-use Rattle.std.proofs.Common.{◌≡◌, ℕ, sym, ◌∙◌, refl}
-use Rattle.std.specs.Prelude.{max}
+use Rattle.std.proofs.Common.{◌≡◌, ℕ, sym, ◌∙◌, refl, max}
 use Rattle.dn_remain.specs.Vanished.Node.{highest, share}
 use Rattle.dn_survivor.specs.OfOthers.{told_of, own_of}
 use Rattle.dn_survivor.proofs.Lowest.{highest_more, no_numbers}

@@ -1,5 +1,4 @@
-use Rattle.std.proofs.Common.{◌≡◌, ℕ, sym, ◌∙◌, ap, arith, inl, inr}
-use Rattle.std.proofs.lemmas.Bool.{cases_lt}
+use Rattle.std.proofs.{Common.{◌≡◌, ℕ, sym, ◌∙◌, ap, arith, inl, inr}, lemmas.Bool.cases_lt}
 use Rattle.dn_remain.specs.Vanished.Calls.{is_heard}
 use Rattle.dn_survivor.specs.OfOthers.{nodes_of, own_of}
 use Rattle.dn_survivor.proofs.Lowest.{every_from}

@@ -1,5 +1,4 @@
-use Rattle.std.proofs.Common.{◌≡◌, ◌<◌, ℕ}
-use Rattle.std.specs.Prelude.{true}
+use Rattle.std.proofs.Common.{◌≡◌, ◌<◌, ℕ, true}
 use Rattle.dn_remain.specs.Vanished.Calls.{is_heard}
 use Rattle.dn_survivor.specs.OfOthers.{nodes_of, own_of}
 use Rattle.dn_survivor.proofs.others.Others.undecided.Given as goal

@@ -1,5 +1,4 @@
-use Rattle.std.proofs.Common.{◌≡◌, sym, arith}
-use Rattle.std.specs.Prelude.{false}
+use Rattle.std.proofs.Common.{◌≡◌, sym, arith, false}
 use Rattle.dn_remain.specs.Vanished.Calls.{is_within_at}
 use Rattle.dn_survivor.specs.OfOthers.{has}
 use Rattle.dn_survivor.proofs.Lowest.{every_false}

@@ -3,9 +3,7 @@ use Rattle.dn_survivor.specs.OfOthers.{count_told}
 use Rattle.dn_survivor.proofs.others.ending.count_told.Given as goal
 
 abbrev pub invariant-loop-tail : goal.invariant-loop-tail
-invariant-loop-tail l = record {
-  rest : count_told l.rest l.fn.player ≡ count_told l.fn.told l.fn.player;
-}
+invariant-loop-tail l = record { rest : count_told l.rest l.fn.player ≡ count_told l.fn.told l.fn.player }
 
 abbrev pub decreases-loop-tail : goal.decreases-loop-tail
 decreases-loop-tail l = length l.rest

@@ -1,5 +1,4 @@
-use Rattle.std.proofs.Common.{◌≡◌, ◌≤◌, ◌+◌, ◌*◌, ◌++◌, ◌∷◌, [], length, take}
-use Rattle.std.specs.List.{flat_map}
+use Rattle.std.proofs.Common.{◌≡◌, ◌≤◌, ◌+◌, ◌*◌, ◌++◌, ◌∷◌, [], length, take, flat_map}
 use Rattle.dn_survivor.specs.ReportBytes.{first_byte, tail_bytes}
 use Rattle.dn_survivor.proofs.report.Report.bytes.Given as goal
 

@@ -1,7 +1,6 @@
 use Rattle.std.proofs.Common.{rules, ◌≡◌, ◌++◌, ◌∷◌, ◌∙◌, [], ℕ, List, length, ap, sym, arith}
-use Rattle.std.proofs.lemmas.List.{length_push, length-append}
-use Rattle.std.proofs.lemmas.List.Elements.{All-push}
-use Rattle.dn_tic.specs.{Command.command_bytes, Command.IsCommand, declared.command.TicCmd.TicCmd}
+use Rattle.std.proofs.lemmas.List.{length_push, length-append, Elements.All-push}
+use Rattle.dn_tic.specs.{Command.{command_bytes, IsCommand}, declared.command.TicCmd.TicCmd}
 use Rattle.dn_survivor.proofs.ReportBytes.{one_read}
 use Rattle.dn_survivor.proofs.report.reading.commands_in.Goals as goal
 

@@ -1,5 +1,4 @@
-use Rattle.std.proofs.Common.{◌≡◌, ◌+◌, ◌*◌, ◌++◌, length, All}
-use Rattle.std.specs.List.{flat_map}
+use Rattle.std.proofs.Common.{◌≡◌, ◌+◌, ◌*◌, ◌++◌, length, All, flat_map}
 use Rattle.dn_tic.specs.Command.{command_bytes, IsCommand}
 use Rattle.dn_survivor.proofs.report.reading.commands_in.Given as goal
 

@@ -1,11 +1,8 @@
 -- What the parts of bytes are read as, they are read as together.
-use Rattle.std.proofs.Common.{◌≡◌, ◌≢◌, ◌<◌, ◌≤◌, ◌/◌, ◌%◌, ℕ, List, length, drop, get_or, sym, arith, Ok, Err, ◌∙◌, subst}
-use Rattle.std.specs.Prelude.{Bool, ◌==◌}
-use Rattle.std.specs.List.{flat_map}
-use Rattle.std.proofs.lemmas.Bool.{eq-eqb, ne_eqb}
-use Rattle.std.proofs.lemmas.List.{take_rest}
-use Rattle.dn_survivor.specs.{declared.report.ReportFault.ReportFault, declared.report.ReportFault.TheVariants.Bits, declared.report.Tail.Tail, ReportBytes.bit, ReportBytes.number_of}
-use Rattle.dn_survivor.specs.{ReportBytes.tail_bytes, ReportBytes.AreTold, ReportBytes.free_bits, ReportBytes.HasFault, ReportBytes.IsReadAs}
+use Rattle.std.proofs.Common.{◌≡◌, ◌≢◌, ◌<◌, ◌≤◌, ◌/◌, ◌%◌, ℕ, List, length, drop, get_or, sym, arith, Ok, Err, ◌∙◌}
+use Rattle.std.proofs.{Common.{subst, Bool, ◌==◌, flat_map, eq-eqb, ne_eqb}, lemmas.List.take_rest}
+use Rattle.dn_survivor.specs.declared.report.{ReportFault.{ReportFault, TheVariants.Bits}, Tail.Tail}
+use Rattle.dn_survivor.specs.ReportBytes.{bit, number_of, tail_bytes, AreTold, free_bits, HasFault, IsReadAs}
 use Rattle.dn_survivor.proofs.ReportBytes.{one_reading}
 use Rattle.dn_survivor.proofs.report.reading.decode.Goals as goal
 
@@ -23,11 +20,7 @@ highest x small = grind (arith, eq-eqb, ne_eqb)
 report_read : (bytes : List ℕ) (gone : List Bool) (told : List Tail) → get_or bytes 0 0 < 256
     → 1 ≤ length bytes → free_bits bytes ≡ 0 → length gone ≡ 4 → number_of gone ≡ get_or bytes 0 0 % 16
     → AreTold told → drop 1 bytes ≡ flat_map tail_bytes told
-    → IsReadAs bytes (Ok (record {
-      gone = gone;
-      left = get_or bytes 0 0 / 128 == 1;
-      told = record { items = told };
-    }))
+    → IsReadAs bytes (Ok (record { gone = gone; left = get_or bytes 0 0 / 128 == 1; told = record { items = told } }))
 report_read bytes gone told small some free four is are spelled = grind (arith, highest)
 
 pub returns-then-first-ne0-clause-only : goal.returns-then-first-ne0-clause-only

@@ -1,5 +1,4 @@
-use Rattle.std.proofs.Common.{◌≡◌, ◌+◌, ◌-◌, ◌*◌, ℕ, refl, sym, ◌∙◌, arith, ap, take, drop}
-use Rattle.std.specs.List.{flat_map}
+use Rattle.std.proofs.Common.{◌≡◌, ◌+◌, ◌-◌, ◌*◌, ℕ, refl, sym, ◌∙◌, arith, ap, take, drop, flat_map}
 use Rattle.dn_tic.specs.Command.{command_bytes}
 use Rattle.dn_survivor.specs.ReportBytes.{told_number, IsFirst}
 use Rattle.dn_survivor.proofs.ReportBytes.{assembled}

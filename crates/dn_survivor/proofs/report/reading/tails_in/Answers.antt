@@ -1,10 +1,8 @@
 -- Players are told in order of their numbers, one after the other.
-use Rattle.std.proofs.Common.{◌≡◌, ◌≢◌, ◌≤◌, ℕ, suc, List, [], ◌∷◌, ◌++◌, length, refl, subst, sym, arith, ◌∙◌, ◌+◌, ◌*◌, drop, ap, append-nil}
-use Rattle.std.proofs.lemmas.List.{length_push, take_rest, length-drop, nil_from_length}
-use Rattle.std.proofs.lemmas.List.Elements.{All-nil, All-push}
-use Rattle.std.specs.List.{flat_map}
-use Rattle.dn_survivor.specs.{declared.report.Tail.Tail, ReportBytes.AreInOrder, ReportBytes.AreTold, ReportBytes.IsTail, ReportBytes.next_after, ReportBytes.tail_bytes, ReportBytes.fault_at}
-use Rattle.dn_survivor.specs.{ReportBytes.told_number}
+use Rattle.std.proofs.Common.{◌≡◌, ◌≢◌, ◌≤◌, ℕ, suc, List, [], ◌∷◌, ◌++◌, length, refl, subst, sym, arith, ◌∙◌, ◌+◌, ◌*◌, drop, ap, append-nil, flat_map}
+use Rattle.std.proofs.lemmas.List.{length_push, take_rest, length-drop, nil_from_length, Elements.{All-nil, All-push}}
+use Rattle.dn_survivor.specs.declared.report.Tail.{Tail}
+use Rattle.dn_survivor.specs.ReportBytes.{AreInOrder, AreTold, IsTail, next_after, tail_bytes, fault_at, told_number}
 use Rattle.dn_survivor.proofs.ReportBytes.{one_read}
 use Rattle.dn_survivor.proofs.report.reading.tails_in.Goals as goal
 
@@ -22,18 +20,16 @@ next_more least [] tail = refl
 next_more least (t ∷ told) tail = next_more (suc t.player) told tail
 
 -- one player more is told
-module _ (told more : List Tail) (tail : Tail) (pushed : more ≡ told ++ tail ∷ [])
-  where
-    more_told : AreTold told → IsTail tail → length told ≢ 2 → next_after 0 told ≤ tail.player → AreTold more
-    more_told are is another next =
-        subst AreTold (sym pushed) (record {
-          few = omega (arith, are.few, another, length_push told tail);
-          order = in_order 0 told tail are.order next;
-          tails = All-push IsTail told tail are.tails is;
-        })
+module _ (told more : List Tail) (tail : Tail) (pushed : more ≡ told ++ tail ∷ []) where
+  more_told : AreTold told → IsTail tail → length told ≢ 2 → next_after 0 told ≤ tail.player → AreTold more
+  more_told are is another next = subst AreTold (sym pushed) (record {
+    few = omega (arith, are.few, another, length_push told tail);
+    order = in_order 0 told tail are.order next;
+    tails = All-push IsTail told tail are.tails is;
+  })
 
-    next_told : next_after 0 more ≡ suc tail.player
-    next_told = subst (λ (ts : List Tail). next_after 0 ts ≡ suc tail.player) (sym pushed) (next_more 0 told tail)
+  next_told : next_after 0 more ≡ suc tail.player
+  next_told = subst (λ (ts : List Tail). next_after 0 ts ≡ suc tail.player) (sym pushed) (next_more 0 told tail)
 
 pub loop-rest-init : goal.loop-rest-init
 loop-rest-init c =
@@ -66,8 +62,7 @@ loop-rest-preserved c =
       so_far = one_read tail_bytes c.args.bytes.now rest _ found _ tail inv.so_far
           (told.4 ∙ ap (λ (bs : List ℕ). tail_bytes tail ++ bs) behind) pushed;
       are = more_told found _ tail pushed inv.are told.0
-          (λ e. told.1.another (c.len.ensures.value ∙ e))
-          (omega (arith, inv.next, told.1.order, told.2));
+          (λ e. told.1.another (c.len.ensures.value ∙ e)) (omega (arith, inv.next, told.1.order, told.2));
       next = omega (arith, next_told found _ tail pushed);
     }
 

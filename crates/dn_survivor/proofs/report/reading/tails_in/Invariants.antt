@@ -1,5 +1,4 @@
-use Rattle.std.proofs.Common.{◌≡◌, ◌++◌, length}
-use Rattle.std.specs.List.{flat_map}
+use Rattle.std.proofs.Common.{◌≡◌, ◌++◌, length, flat_map}
 use Rattle.dn_survivor.specs.{ReportBytes.tail_bytes, ReportBytes.AreTold, ReportBytes.next_after}
 use Rattle.dn_survivor.proofs.report.reading.tails_in.Given as goal
 

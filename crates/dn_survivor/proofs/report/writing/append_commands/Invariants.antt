@@ -1,5 +1,4 @@
-use Rattle.std.proofs.Common.{◌≡◌, ◌+◌, ◌*◌, ◌++◌, length, take}
-use Rattle.std.specs.List.{flat_map}
+use Rattle.std.proofs.Common.{◌≡◌, ◌+◌, ◌*◌, ◌++◌, length, take, flat_map}
 use Rattle.dn_tic.specs.Command.{command_bytes}
 use Rattle.dn_survivor.proofs.report.writing.append_commands.Given as goal
 

@@ -1,5 +1,4 @@
-use Rattle.std.proofs.Common.{◌∷◌, [], ℕ, length, ap, arith, length-append}
-use Rattle.std.specs.List.{flat_map}
+use Rattle.std.proofs.Common.{◌∷◌, [], ℕ, length, ap, arith, length-append, flat_map}
 use Rattle.dn_tic.specs.Command.{command_bytes}
 use Rattle.dn_packet.proofs.Texts.{length-commands}
 use Rattle.dn_survivor.proofs.report.writing.append_tail.Goals as goal

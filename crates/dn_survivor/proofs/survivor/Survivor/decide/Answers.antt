@@ -1,11 +1,9 @@
-use Rattle.std.proofs.Common.{◌≡◌, ◌∙◌, sym, subst}
-use Rattle.std.specs.Prelude.{true}
-use Rattle.std.proofs.lemmas.Bool.{cond-true}
-use Rattle.dn_machine.specs.Node as machine
+use Rattle.std.proofs.{Common.{◌≡◌, ◌∙◌, sym, subst, true}, lemmas.Bool.cond-true}
 use Rattle.dn_lockstep.specs.{Contents.contents, Steps.IsAfter}
 use Rattle.dn_lockstep.proofs.After.{steps}
 use Rattle.dn_remain.specs.Vanished.Calls.{can_decide}
 use Rattle.dn_survivor.specs.{OfOthers.nodes_of, OfOthers.own_of, Calls.decided_by, Calls.settled_below, declared.answers.Ends.Ends}
+use Rattle.dn_machine.specs.Node as machine
 use Rattle.dn_survivor.proofs.survivor.Survivor.decide.Goals as goal
 
 pub returns-then-can_decide-clause-step : goal.returns-then-can_decide-clause-step

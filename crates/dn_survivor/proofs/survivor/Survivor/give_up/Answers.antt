@@ -1,5 +1,4 @@
-use Rattle.std.proofs.Common.{◌≡◌, ◌∙◌, Option, None, ap, sym, subst}
-use Rattle.std.specs.Prelude.{Bool}
+use Rattle.std.proofs.Common.{◌≡◌, ◌∙◌, Option, None, ap, sym, subst, Bool}
 use Rattle.dn_lockstep.specs.{Contents.contents, Settling.on_excuse, Steps.Steps}
 use Rattle.dn_lockstep.proofs.After.{steps}
 use Rattle.dn_survivor.specs.{declared.others.Others.Others, Calls.GivesUpUnless, Calls.given_up_as, Calls.refused_give_up, Calls.with_gone, Calls.decided_by, Surviving.surviving, declared.answers.GivenUp.GivenUp}

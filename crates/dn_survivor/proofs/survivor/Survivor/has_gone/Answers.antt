@@ -1,5 +1,4 @@
-use Rattle.std.proofs.Common.{◌∙◌, sym, ap, arith}
-use Rattle.std.specs.Option.{is_some}
+use Rattle.std.proofs.Common.{◌∙◌, sym, ap, arith, is_some}
 use Rattle.dn_lockstep.proofs.Lowest.{lowest_found}
 use Rattle.dn_survivor.specs.Surviving.{surviving, has_given_up}
 use Rattle.dn_survivor.proofs.Lowest.{lowest_none}

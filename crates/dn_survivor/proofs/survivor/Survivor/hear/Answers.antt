@@ -1,6 +1,4 @@
-use Rattle.std.proofs.Common.{◌≡◌, ◌∙◌, Option, None, ap, sym, subst, refl}
-use Rattle.std.specs.Prelude.{true, false}
-use Rattle.std.proofs.lemmas.Option.{none-some}
+use Rattle.std.proofs.{Common.{◌≡◌, ◌∙◌, Option, None, ap, sym, subst, refl, true, false}, lemmas.Option.none-some}
 use Rattle.dn_lockstep.specs.{Settling.is_no_peer, Steps.Steps}
 use Rattle.dn_lockstep.proofs.After.{steps}
 use Rattle.dn_survivor.specs.{declared.others.Others.Others, OfOthers.reported_as, Calls.HearsReportUnless, Calls.reported_by, Calls.refused_report, Calls.unkept, Calls.decided_by}

@@ -1,6 +1,4 @@
-use Rattle.std.proofs.Common.{◌-◌, ◌∙◌, ◌++◌, ℕ, sym, arith}
-use Rattle.std.specs.Prelude.{Option}
-use Rattle.std.specs.Option.{option_to_list}
+use Rattle.std.proofs.Common.{◌-◌, ◌∙◌, ◌++◌, ℕ, sym, arith, Option, option_to_list}
 use Rattle.dn_tic.specs.{declared.command.TicCmd.TicCmd, Command.IsCommand}
 use Rattle.dn_lockstep.specs.{Contents.contents, Told.command_told}
 use Rattle.dn_survivor.proofs.Lists.{all_more, picks_more}

@@ -1,5 +1,4 @@
-use Rattle.std.proofs.Common.{◌≡◌, ◌-◌, ◌≤◌}
-use Rattle.std.specs.Prelude.{All}
+use Rattle.std.proofs.Common.{◌≡◌, ◌-◌, ◌≤◌, All}
 use Rattle.dn_tic.specs.Command.{IsCommand}
 use Rattle.std.specs.List.{filter_map, range_with_len}
 use Rattle.dn_lockstep.specs.{Contents.contents, Told.command_told}

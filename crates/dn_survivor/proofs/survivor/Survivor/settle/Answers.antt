@@ -1,12 +1,10 @@
 use Rattle.std.proofs.Common.{rules, ◌≡◌, ◌∙◌, subst}
-use Rattle.dn_machine.specs.Node as machine
 use Rattle.dn_machine.specs.Node.{got}
 use Rattle.dn_lockstep.specs.{Contents.contents, Settling.on_settle, declared.lockstep.settling.Settled.Settled, Steps.IsAfter}
-use Rattle.dn_lockstep.proofs.After.{steps}
-use Rattle.dn_lockstep.proofs.Shown.{got_is}
+use Rattle.dn_lockstep.proofs.{After.steps, Shown.got_is}
 use Rattle.dn_remain.specs.Vanished.Node.{decided_end}
-use Rattle.dn_survivor.specs.OfOthers.{commands_of, first_of, own_of, told_of}
-use Rattle.dn_survivor.specs.Calls.{end_by}
+use Rattle.dn_survivor.specs.{OfOthers.{commands_of, first_of, own_of, told_of}, Calls.end_by}
+use Rattle.dn_machine.specs.Node as machine
 use Rattle.dn_survivor.proofs.survivor.Survivor.settle.Goals as goal
 
 pub returns-clause-step : goal.returns-clause-step

@@ -1,5 +1,5 @@
 use Rattle.std.proofs.Common.{◌≡◌, ◌∙◌, ℕ, sym, ap, subst, refl, arith}
-use Rattle.dn_lockstep.specs.{Contents.Whose, Contents.contents, Steps.IsAfter, Steps.Steps}
+use Rattle.dn_lockstep.specs.{Contents.{contents}, Steps.{IsAfter, Steps}}
 use Rattle.dn_lockstep.proofs.After.{after, steps}
 use Rattle.dn_survivor.specs.{declared.others.Others.Others, Calls.settled_below, Calls.settled_with, Surviving.Surviving, Surviving.has_given_up, declared.answers.Ends.Ends}
 use Rattle.dn_survivor.proofs.Ends.{below_next, below_zero, chain}

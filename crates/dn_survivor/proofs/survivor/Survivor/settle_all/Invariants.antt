@@ -1,6 +1,6 @@
 use Rattle.std.proofs.Common.{◌≡◌, ◌≢◌, ℕ, false}
 use Rattle.dn_lockstep.specs.{Contents.contents, Steps.Steps}
-use Rattle.dn_survivor.specs.{declared.answers.Ends.Ends, Calls.settled_below, Surviving.has_given_up, Surviving.surviving}
+use Rattle.dn_survivor.specs.{declared.answers.Ends.Ends, Calls.settled_below, Surviving.{has_given_up, surviving}}
 use Rattle.dn_survivor.proofs.survivor.Survivor.settle_all.Given as goal
 
 abbrev pub invariant-loop-player : goal.invariant-loop-player

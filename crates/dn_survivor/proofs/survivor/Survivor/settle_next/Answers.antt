@@ -15,8 +15,7 @@ returns-clause-step c = steps c.settle-settled.ensures.step.same (λ limits me m
     let gone = sym c.has_given_up.ensures ∙ c.if-not-has_given_up.false in
     let step = c.settle-settled.ensures.step.step limits me m r in
     let others = c.args.self.now.others in
-    let is : settled_with limits me others c.args.player (m, c.args.ends)
-    ≡ (
+    let is : settled_with limits me others c.args.player (m, c.args.ends) ≡ (
       (settled_by limits me others c.args.player m).0,
       ends_with c.args.ends c.args.player (settled_by limits me others c.args.player m).1,
     ) = rw gone refl in

@@ -1,5 +1,4 @@
-use Rattle.std.proofs.Common.{rules, ◌≡◌, length, ap, arith}
-use Rattle.std.specs.Prelude.{◌-◌, min}
+use Rattle.std.proofs.Common.{rules, ◌≡◌, length, ap, arith, ◌-◌, min}
 use Rattle.dn_survivor.specs.ReportBytes.{IsTail}
 use Rattle.dn_lockstep.specs.{Contents.contents, Told.command_told}
 use Rattle.dn_survivor.proofs.Lists.{all_one, picks_few}

@@ -1,11 +1,8 @@
-use Rattle.std.proofs.Common.{◌≡◌, ◌<◌, ◌+◌, ◌∙◌, ◌++◌, ℕ, length, sym, ap, refl, arith}
-use Rattle.std.specs.Prelude.{Option}
+use Rattle.std.proofs.Common.{◌≡◌, ◌<◌, ◌+◌, ◌∙◌, ◌++◌, ℕ, length, sym, ap, refl, arith, Option, option_to_list, length-append}
 use Rattle.std.specs.List.{filter_map, range_with_len}
-use Rattle.std.specs.Option.{option_to_list}
-use Rattle.std.proofs.lemmas.List.{length-append}
 use Rattle.dn_survivor.specs.{declared.report.Tail.Tail, ReportBytes.IsTail, Telling.told_in}
 use Rattle.dn_lockstep.specs.Contents.{contents}
-use Rattle.dn_survivor.proofs.{Lists.all_more, Lists.picks_more, Reports.are_told, Reports.few_tails}
+use Rattle.dn_survivor.proofs.{Lists.{all_more, picks_more}, Reports.{are_told, few_tails}}
 use Rattle.dn_survivor.proofs.survivor.Survivor.told.Goals as goal
 
 pub push_some-requires : goal.push_some-requires

@@ -1,5 +1,4 @@
-use Rattle.std.proofs.Common.{◌∙◌}
-use Rattle.std.specs.Prelude.{not}
+use Rattle.std.proofs.Common.{◌∙◌, not}
 use Rattle.dn_machine.specs.Node.{lowest}
 use Rattle.dn_remain.specs.Vanished.Calls.{is_heard}
 use Rattle.dn_survivor.specs.OfOthers.{nodes_of, own_of}

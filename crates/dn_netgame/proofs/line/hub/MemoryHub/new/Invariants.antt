@@ -1,5 +1,4 @@
-use Rattle.std.proofs.Common.{◌≡◌, [], map, replicate, length}
-use Rattle.std.specs.Vec.{vec_capacity}
+use Rattle.std.proofs.Common.{◌≡◌, [], map, replicate, length, vec_capacity}
 use Rattle.dn_netgame.proofs.line.hub.MemoryHub.new.Given as goal
 
 abbrev pub invariant-loop : goal.invariant-loop

@@ -1,0 +1,6 @@
+use Rattle.dn_program.proofs.More.{at_last}
+use Rattle.dn_program.proofs.game_options.with_paths.Goals as goal
+
+pub returns : goal.returns
+returns c =
+    at_last _ _ _ _ _ c.in_ok-from.ensures c.with_path-2.ensures

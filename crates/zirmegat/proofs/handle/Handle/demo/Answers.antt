@@ -1,0 +1,12 @@
+use Rattle.std.proofs.Common.{◌∙◌, ap, sym}
+use mathlib.Core.Logic.{inr}
+use Rattle.zirmegat.specs.{Lends.holding, Kinds.demo_in}
+use Rattle.zirmegat.proofs.OfKinds.{no_demo}
+use Rattle.zirmegat.proofs.handle.Handle.demo.Goals as goal
+
+pub returns-in_default : goal.returns-in_default
+returns-in_default c =
+    let same = c.held.ensures.value in (
+      ap (λ held. inr (holding c.args.self.now held)) same,
+      record { writes_back = tt; value = ap demo_in (sym same) ∙ no_demo _ c.in_default.not-Demo },
+    )

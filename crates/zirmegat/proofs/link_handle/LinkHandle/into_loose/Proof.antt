@@ -1,8 +1,0 @@
--- `into_loose` hands over what a live handle owns.
-use Rattle.zirmegat.proofs.{Handles.link_handle, HandleFunctions.makes_into_loose, link_handle.LinkHandle.into_loose.Statement.statement}
-use Rattle.zirmegat.specs.contracts.link_handle.LinkHandle.into_loose as f
-use Rattle.zirmegat.proofs.link_handle.LinkHandle.into_loose.Code as code
-
-pub into_loose_spec : {M : Type 1} → statement M
-into_loose_spec 𝓤 𝓛 𝓜 𝓡 wired =
-    makes_into_loose 𝓤 𝓛 𝓜 𝓡 link_handle f.Key.name (code.unfolded 𝓤 𝓛.H 𝓜 𝓡 wired)

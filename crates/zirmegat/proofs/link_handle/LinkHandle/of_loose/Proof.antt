@@ -1,8 +1,0 @@
--- `of_loose` keeps the pointer with what it owns.
-use Rattle.zirmegat.proofs.{Handles.link_handle, HandleFunctions.makes_of_loose, link_handle.LinkHandle.of_loose.Statement.statement}
-use Rattle.zirmegat.specs.contracts.link_handle.LinkHandle.of_loose as f
-use Rattle.zirmegat.proofs.link_handle.LinkHandle.of_loose.Code as code
-
-pub of_loose_spec : {M : Type 1} → statement M
-of_loose_spec 𝓤 𝓛 𝓜 𝓡 wired =
-    makes_of_loose 𝓤 𝓛 𝓜 𝓡 link_handle f.Key.name (code.unfolded 𝓤 𝓛.H 𝓜 𝓡 wired)
