@@ -4,7 +4,7 @@ use Rattle.std.specs.List.{list_all}
 use Rattle.hex.specs.Hex.{encode_lower, decode_sized}
 use Rattle.hex.specs.declared.error.FromHexError.{FromHexError}
 use Rattle.dn_program.specs.declared.key.KeyFault.{KeyFault}
-use Rattle.dn_program.specs.declared.key.KeyFault.TheVariants.{Form, Zeros, Exists, Random, Make, Write, Read}
+use Rattle.dn_program.specs.declared.key.KeyFault.TheVariants.{Exposed, Form, Zeros, Exists, Random, Make, Write, Read}
 
 -- the digits of a key in lower case, and a line end
 abbrev pub key_text : List ℕ → List ℕ
@@ -29,7 +29,7 @@ key_read text =
     then key_of_digits (take (length text - 1) text)
     else Err Form
 
--- the file is refused for what is in it, or since it is there; else the system failed
+-- the file is refused for what is in it, since it is there, or since others can read it; else the system failed
 abbrev pub is_refusal : KeyFault → Bool
 is_refusal Exists = true
 is_refusal Random = false
@@ -38,6 +38,7 @@ is_refusal Write = false
 is_refusal Read = false
 is_refusal Form = true
 is_refusal Zeros = true
+is_refusal Exposed = true
 
 -- a key was not made for this fault
 abbrev pub IsOfMaking : KeyFault → Type 0
@@ -48,6 +49,7 @@ IsOfMaking Write = ⊤
 IsOfMaking Read = ⊥
 IsOfMaking Form = ⊥
 IsOfMaking Zeros = ⊥
+IsOfMaking Exposed = ⊥
 
 -- a key was not read for this fault
 abbrev pub IsOfReading : KeyFault → Type 0
@@ -58,6 +60,7 @@ IsOfReading Write = ⊥
 IsOfReading Read = ⊤
 IsOfReading Form = ⊤
 IsOfReading Zeros = ⊤
+IsOfReading Exposed = ⊤
 
 -- a key that is not all zeros, or a fault of reading
 abbrev pub IsRead : Result (List ℕ) KeyFault → Type 0

@@ -8,6 +8,7 @@ ghost use Rattle.std.specs.Fs.{asks_create_new};
 ghost use Rattle.std.specs.Io.KnownBytes.{Appends};
 ghost use Rattle.dn_program.specs.declared.key.KeyFault.TheVariants as fault;
 
+use crate::exposure::refuse_exposed;
 use std::fs;
 use std::fs::{File, OpenOptions};
 use std::io::{ErrorKind, Read, Write};
@@ -40,6 +41,9 @@ pub enum KeyFault {
     /// The file has the key of zeros, as a file has that was never filled.
     #[error("key: all digits are zeros")]
     Zeros,
+    /// Others than its owner may read or change the file.
+    #[error("key: others can read the file")]
+    Exposed,
 }
 
 impl KeyFault {
@@ -48,7 +52,7 @@ impl KeyFault {
         ensures { result ≡ is_refusal self }
     {
         match self {
-            KeyFault::Exists | KeyFault::Form | KeyFault::Zeros => true,
+            KeyFault::Exists | KeyFault::Form | KeyFault::Zeros | KeyFault::Exposed => true,
             KeyFault::Random | KeyFault::Make | KeyFault::Write | KeyFault::Read => false,
         }
     }
@@ -130,14 +134,14 @@ fn key_of<R: Read>(file: &mut R) -> Result<[u8; KEY], KeyFault>
     key_in(&room[..count])
 }
 
-/// The key that a file has, never that of zeros.
+/// The key that a file has which its owner alone can read, never that of zeros.
 pub fn read_key<R: Files>(rt: &R, path: &str) -> Result<[u8; KEY], KeyFault>
     ensures { IsRead result }
 {
-    match fs::open(rt, path) {
-        Ok(mut file) => key_of(&mut file),
-        Err(_) => Err(KeyFault::Read),
-    }
+    let mut file = fs::open(rt, path).map_err(|_| KeyFault::Read)?;
+    let key = key_of(&mut file)?;
+    refuse_exposed(&file)?;
+    Ok(key)
 }
 
 /// How the file of a key is made: only where none is, and for its owner alone.

@@ -7,6 +7,7 @@ mod command_line;
 mod demos;
 mod differing;
 mod ends;
+mod exposure;
 mod game_options;
 mod inputs;
 pub mod key;

@@ -8,7 +8,7 @@ use crate::key::KEY;
 use crate::options::Pace;
 use crate::say::say_line;
 use crate::screen::ErrorScreen;
-use crate::secrets::{secret_of, tell_key};
+use crate::secrets::{secret_of, tell_bad_key};
 use clap::ArgMatches;
 use dn_game::GameConfig;
 use dn_host::{Guest, Hosting, Os, Plan, Udp, host_game, join_game};
@@ -47,7 +47,7 @@ fn prepared(
     };
     let secret = match secret_of(rt, matches) {
         Ok(secret) => secret,
-        Err(fault) => return Ok(Err(tell_key(rt, raw, fault)?)),
+        Err(fault) => return Ok(Err(tell_bad_key(rt, raw, fault, matches)?)),
     };
     let Ok(wire) = Udp::bind(rt, port) else {
         say_line(rt, raw, "socket fault")?;

@@ -13,11 +13,7 @@ use std::random::RandomSource;
 use std::rt::Files;
 
 /// Prints the line of a key that was not made or not read, and answers the exit status.
-pub(crate) fn tell_key(
-    rt: &(impl Print + Eprint),
-    raw: bool,
-    fault: KeyFault,
-) -> Result<u8, RunFault>
+fn tell_key(rt: &(impl Print + Eprint), raw: bool, fault: KeyFault) -> Result<u8, RunFault>
     ensures { Answers raw (key_status fault) result }
 {
     say_line(rt, raw, fault)?;
@@ -55,4 +51,20 @@ pub(crate) fn secret_of(
         Some(path) => Ok(Some(read_key(rt, path)?)),
         None => Ok(None),
     }
+}
+
+/// Prints the line of a key that was not read, and what to do where others can read it, and answers the exit status.
+pub(crate) fn tell_bad_key(
+    rt: &(impl Print + Eprint),
+    raw: bool,
+    fault: KeyFault,
+    matches: &ArgMatches<'_>,
+) -> Result<u8, RunFault>
+    ensures { Answers raw (key_status fault) result }
+{
+    let status = tell_key(rt, raw, fault)?;
+    if let (KeyFault::Exposed, Some(path)) = (fault, crate::options::key(matches)) {
+        let _ = eprintln!(rt; "make it yours alone by: chmod 600 {path}");
+    }
+    Ok(status)
 }

@@ -2,6 +2,9 @@
 
 use dn_program::key::{KEY, key_in, read_key, text_of_key};
 use dn_shared_tests::{holds, same};
+use std::fs::File;
+use std::io::Write;
+use std::os::unix::fs::OpenOptionsExt;
 use std::test::Fail;
 use std::{fs, process};
 
@@ -23,11 +26,15 @@ fn a_key_is_64_digits_and_a_line_end(ref rt: HostRuntime) {
 }
 
 #[test]
-fn a_key_is_read_from_its_file(rt: HostRuntime) -> Result<(), Fail> {
+fn a_key_is_read_from_the_file_of_its_owner(rt: HostRuntime) -> Result<(), Fail> {
     let id = process::id(rt.process());
     let path = format!(in rt.alloc(); "/tmp/netgame.key.{id}")?;
     let rt = &rt;
-    fs::write(rt, path.as_str(), COUNTED_TEXT.as_slice())?;
+    let mut options = File::options();
+    options.mode(0o600);
+    options.write(true).create_new(true);
+    let mut file = options.open(rt, path.as_str())?;
+    file.write_all(COUNTED_TEXT)?;
     let read = read_key(rt, path.as_str());
     fs::remove_file(rt, path.as_str())?;
     same!(rt; read, Ok(COUNTED));
